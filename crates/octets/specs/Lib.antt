@@ -1,0 +1,2 @@
+-- The definitions that contracts about buffers of octets cite.
+pub mod Octets
