@@ -1,0 +1,2 @@
+-- The definitions of the profile and its rows.
+pub mod Profile
