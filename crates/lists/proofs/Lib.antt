@@ -12,3 +12,5 @@ pub mod Chunks
 pub mod Update
 pub mod Pool
 pub mod Pigeonhole
+pub mod Agree
+pub mod Cut

@@ -1,0 +1,4 @@
+-- The laws of the filter lists.
+pub mod Flat
+pub mod Identities
+pub mod Kept
