@@ -1,6 +1,6 @@
 -- The key expansion's loop: what holds at word i of the words w, where w₀ are those at the loop's start; that a turn
 -- keeps it; and that at the end it gives all 44 words.
-use mathlib.Core.Path.{_≡_, refl, sym, ap, ap₂, _∙_}
+use mathlib.Core.Path.{_≡_, sym, ap, ap₂, _∙_}
 use mathlib.Core.List.{List, [], _∷_, _++_}
 use Prim.Native.Nat.{ℕ, suc, _+_, _-_, _≤_, _<_}
 use native.Mathlib.Omega.{arith}

@@ -1,7 +1,7 @@
 // Whether the entries of a flat list differ, for question 3: asked at every call, so most lists are passed by sums of 16
 // bits, all compared at once, and only where two sums are equal are the keys compared.
 ghost use mathlib.Core.Path.{_≡_};
-ghost use mathlib.Core.Bool.{Bool, true, false};
+ghost use mathlib.Core.Bool.{true, false};
 ghost use mathlib.Core.List.{map};
 ghost use Prim.Native.Nat.{ℕ, _+_, _*_, _≤_, _<_};
 ghost use lib.ListN.{length, take, drop, getD};

@@ -2,7 +2,7 @@
 // framed into whole packets over a buffer that the caller lends. For hosts and links that exchange packets as a stream
 // of octets. Contracts cite `specs/`.
 ghost use mathlib.Core.Path.{_≡_};
-ghost use Prim.Native.Nat.{_+_, _-_, _%_, _≤_, _<_, min};
+ghost use Prim.Native.Nat.{_+_, _-_, _%_, _≤_, _<_};
 ghost use lib.ListN.{length, take};
 ghost use Rattle.octets.specs.Octets.{octet, word};
 ghost use Rattle.h4.specs.Framing.{packetLength, measured, framed, packetAt};

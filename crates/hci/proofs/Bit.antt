@@ -1,22 +1,21 @@
 -- The laws of bits of masks and maps: the answers of `mask_has`, and what a map with a bit set has at each bit. For the
 -- proofs of these functions and of those who build bit maps.
-use mathlib.Core.Path.{_≡_, refl, sym, ap, _∙_}
+use mathlib.Core.Path.{_≡_, refl, ap, _∙_}
 use Prim.Native.Nat.{ℕ, zero, suc, _+_, _-_, _*_, _/_, _%_, _^_, _≤_, _<_, max}
 use mathlib.Core.List.{List}
-use mathlib.Core.Bool.{Bool, true, false, cond, _&&_}
+use mathlib.Core.Bool.{true, false, cond}
 use native.Mathlib.Omega.{arith}
 use native.Mathlib.Decide.{decLt}
 use native.Mathlib.Nat.{div-eq-of-lt, div-self, mul-div-cancel, two-pow-succ}
-use lib.ListN.{length, set, getD}
+use lib.ListN.{length}
 use lib.Seq.{getD-set-same, getD-set-other}
 use lib.Pow.{pow-pos, pow-lt, pow-add}
 use lib.Bits.{bitOr, or-step, or-shr}
-use lib.Dec.{ltb, eqb}
+use lib.Dec.{eqb}
 use borrow.Author.Tests.{le-ltb, lt-ltb, eq-eqb, ne-eqb, eqb-true, eqb-false}
 use borrow.Table.Steps.{cases}
 use Rattle.octets.specs.Octets.{octet}
 use Rattle.hci.specs.Bits.{MaskHas, bitOf, withBit, mapBit}
-use Rattle.hci.specs.declared.bits.Has.{Has}
 use Rattle.hci.specs.declared.bits.Has.the-variants.{Yes, No, NoSuchBit}
 
 -- the three answers of `mask_has`

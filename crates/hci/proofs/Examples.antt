@@ -1,7 +1,7 @@
 -- Packets of document 01's bench lines and of Core's forms, as the definitions give them: worked examples for a reader.
 use mathlib.Core.Path.{_≡_, refl}
 use mathlib.Core.Bool.{true, false}
-use mathlib.Core.List.{List, [], _∷_}
+use mathlib.Core.List.{[], _∷_}
 use Rattle.lists.specs.Lists.{any}
 use Rattle.hci.specs.Packet.{event, completeParams, completedParams, statusParams, acl, pairs}
 use Rattle.hci.specs.Read.{parseCommand, parseAcl, aclParts, aclData}

@@ -1,21 +1,18 @@
 -- What `acl` writes, `acl_parts` and `acl_data` read back, whatever octets follow it; and what an opcode is made of. For
 -- readers who want to see that readers and writers belong together.
-use mathlib.Core.Path.{_≡_, refl, sym, ap, _∙_}
+use mathlib.Core.Path.{_≡_, refl, sym}
 use Prim.Native.Nat.{ℕ, _+_, _-_, _*_, _/_, _%_, _≤_, _<_}
-use mathlib.Core.List.{List, [], _∷_, _++_, List·Memᴰ}
-use mathlib.Core.Bool.{Bool, true, false, cond}
-use lib.ListN.{length, take, drop, length-append}
+use mathlib.Core.List.{List, _++_, List·Memᴰ}
+use mathlib.Core.Bool.{true}
+use lib.ListN.{length, length-append}
 use lib.Seq.{take-append-seam}
-use lib.Bits.{bitOr, or-shifted}
+use lib.Bits.{or-shifted}
 use native.Mathlib.Omega.{arith}
-use borrow.Author.Tests.{le-ltb, eq-eqb}
 use Rattle.lists.proofs.Tests.{any-member, member-any}
-use Rattle.octets.specs.Octets.{octet, word, le}
+use Rattle.octets.specs.Octets.{word}
 use Rattle.hci.specs.Packet.{acl, aclWord}
-use Rattle.hci.specs.Read.{parseAcl, aclParts, aclData, isWhole}
+use Rattle.hci.specs.Read.{parseAcl, aclParts, aclData}
 use Rattle.hci.specs.Opcode.{opcodeOf, isAsync, asyncOpcodes}
-use Rattle.hci.specs.declared.read.Acl.{Acl}
-use Rattle.hci.specs.declared.read.AclParts.{AclParts}
 use Rattle.hci.specs.declared.read.AclRead.the-variants.{Whole}
 use Rattle.hci.proofs.Readers.{acl-whole}
 

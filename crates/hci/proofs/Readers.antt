@@ -1,6 +1,6 @@
 -- The ways a reader ends, each as one law, and what a packet that was read tells. For the proofs of the readers and of
 -- those who call them.
-use mathlib.Core.Path.{_≡_, refl, sym, ap, _∙_}
+use mathlib.Core.Path.{_≡_, refl, sym, ap}
 use Prim.Native.Nat.{ℕ, _+_, _-_, _*_, _/_, _%_, _≤_, _<_}
 use mathlib.Core.List.{List, [], _∷_}
 use mathlib.Core.Logic.{⊎-elim}
@@ -14,9 +14,7 @@ use native.Mathlib.Omega.{arith}
 use borrow.Author.Tests.{lt-ltb, le-ltb, eq-eqb, ne-eqb, eqb-true, ltb-false}
 use Rattle.octets.specs.Octets.{octet, word}
 use Rattle.hci.specs.Read.{parseCommand, parseAcl, isWhole, aclParts, aclData}
-use Rattle.hci.specs.declared.read.AclParts.{AclParts}
 use Rattle.hci.specs.declared.read.Command.{Command}
-use Rattle.hci.specs.declared.read.CommandRead.{CommandRead}
 use Rattle.hci.specs.declared.read.CommandRead.the-variants as command
 use Rattle.hci.specs.declared.read.Acl.{Acl}
 use Rattle.hci.specs.declared.read.AclRead.{AclRead}

@@ -1,18 +1,15 @@
 -- What the writers write is framed as it was written: `h4_packet_len` gives the count that the writer answered, and packets
 -- written end to end split into the same packets. For hosts and links that read a stream of packets.
-use mathlib.Core.Path.{_≡_, refl, sym, ap, _∙_}
-use Prim.Native.Nat.{ℕ, _+_, _*_, _/_, _%_, _≤_, _<_}
+use mathlib.Core.Path.{_≡_, sym, ap, _∙_}
+use Prim.Native.Nat.{ℕ, _+_, _≤_}
 use mathlib.Core.List.{List, [], _∷_, _++_, map, flatten}
-use mathlib.Core.Bool.{Bool, true, false, cond}
 use lib.ListN.{length, take, drop}
 use lib.Seq.{take-append-seam}
-use lib.Dec.{leb, eqb}
 use native.Mathlib.Omega.{arith}
 use borrow.Author.Tests.{le-leb, eq-eqb, ne-eqb}
 use Rattle.octets.specs.Octets.{word}
 use Rattle.h4.specs.Framing.{packetLength, byIndicator, packets, IsPacket, ArePackets}
-use Rattle.h4.specs.declared.PacketLen.{PacketLen}
-use Rattle.h4.specs.declared.PacketLen.the-variants.{Packet, More, Undefined}
+use Rattle.h4.specs.declared.PacketLen.the-variants.{Packet}
 use Rattle.h4.proofs.Reading.{packet-on}
 use Rattle.h4.proofs.Splitting.{packets-flattened}
 use Rattle.hci.specs.Packet.{event, acl}

@@ -1,15 +1,13 @@
 -- The ways a writer ends, each as one law, for the proofs of the writers and of those who call them.
-use mathlib.Core.Path.{_≡_, refl, sym, ap, _∙_}
-use Prim.Native.Nat.{ℕ, _+_, _≤_, _<_}
-use mathlib.Core.List.{List, [], _∷_, _++_}
-use mathlib.Core.Bool.{Bool, true, false, cond}
-use lib.ListN.{length, drop}
+use mathlib.Core.Path.{_≡_, _∙_}
+use Prim.Native.Nat.{ℕ, _≤_, _<_}
+use mathlib.Core.List.{List, _∷_}
+use lib.ListN.{length}
 use native.Mathlib.Omega.{arith}
 use borrow.Author.Tests.{le-leb, lt-leb}
 use Rattle.octets.specs.Octets.{Put}
 use Rattle.octets.proofs.Writing.{splice-front}
-use Rattle.hci.specs.Packet.{event}
-use Rattle.hci.specs.Write.{Wrote, WroteEvent, refusal, number, count}
+use Rattle.hci.specs.Write.{Wrote, WroteEvent, refusal}
 use Rattle.hci.specs.declared.write.Written.{Written}
 use Rattle.hci.specs.declared.write.Written.the-variants.{Octets, TooLong, NoRoom}
 

@@ -1,6 +1,6 @@
 -- What a packet from the host is, read as a command or as ACL data (Core Vol 4 Part A section 2, Part E sections 5.4.1 and
 -- 5.4.2), with the tests in the order of the source. For callers of the readers.
-use Prim.Native.Nat.{ℕ, _+_, _-_, _/_, _%_}
+use Prim.Native.Nat.{ℕ, _-_, _/_, _%_}
 use mathlib.Core.List.{List, []}
 use mathlib.Core.Bool.{Bool, true, false, cond}
 use lib.ListN.{length, take, drop}

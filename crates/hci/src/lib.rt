@@ -3,9 +3,8 @@
 // cites a definition of `specs/`.
 ghost use mathlib.Core.Path.{_≡_};
 ghost use Prim.Native.Nat.{_*_, _%_};
-ghost use lib.Bits.{bitOr};
 ghost use lib.Dec.{eqb};
-ghost use Rattle.lists.specs.Lists.{firstAt, any};
+ghost use Rattle.lists.specs.Lists.{firstAt};
 ghost use Rattle.hci.specs.Opcode.{opcodeOf, isAsync};
 
 mod bits;

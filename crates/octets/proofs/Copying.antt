@@ -1,13 +1,13 @@
 -- The loop that copies octets one after the other into a buffer: what holds after j turns, and its first, next and last
 -- turn. For the functions of this crate that copy.
-use mathlib.Core.Path.{_≡_, refl, sym, ap, _∙_}
-use mathlib.Core.List.{List, append-assoc}
+use mathlib.Core.Path.{_≡_, refl, _∙_}
+use mathlib.Core.List.{List}
 use Prim.Native.Nat.{ℕ, _+_, _-_, _≤_, _<_, zero-le}
-use native.Mathlib.Nat.{zero-add, add-comm}
+use native.Mathlib.Nat.{zero-add}
 use native.Mathlib.Numerals.{add-one}
 use native.Mathlib.Omega.{arith}
-use lib.ListN.{length, take, drop, getD, set, length-set}
-use lib.Seq.{paste, paste-zero, paste-suc, take-length, length-take-le, getD-append-add, getD-drop, getD-take, take-take}
+use lib.ListN.{length, take, getD, set, length-set}
+use lib.Seq.{paste, paste-zero, paste-suc, take-length, length-take-le, getD-append-add, getD-drop}
 use Rattle.octets.specs.Octets.{splice, Put}
 
 -- the first j octets of src stand in the buffer from index at

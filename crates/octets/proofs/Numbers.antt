@@ -1,11 +1,11 @@
 -- Little-endian numbers of any width: what is written is read back, and a number is read where it stands. For every
 -- crate that reads a field of a packet.
-use mathlib.Core.Path.{_≡_, refl, sym, ap, ap₂, _∙_}
+use mathlib.Core.Path.{_≡_, refl, ap, ap₂, _∙_}
 use mathlib.Core.List.{List, [], _∷_, _++_}
 use Prim.Native.Nat.{ℕ, zero, suc, _+_, _*_, _/_, _%_, _^_, _≤_, _<_}
-use native.Mathlib.Nat.{pow-succ', zero-add, suc-add, add-zero}
+use native.Mathlib.Nat.{pow-succ', zero-add, suc-add}
 use native.Mathlib.Omega.{arith}
-use lib.ListN.{length, take, drop, getD, length-drop}
+use lib.ListN.{length, take, drop}
 use lib.Seq.{drop-cons}
 use Rattle.octets.specs.Octets.{octet, le, numberAt}
 

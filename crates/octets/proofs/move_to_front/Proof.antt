@@ -1,6 +1,6 @@
 -- `octets::move_to_front` meets its contract: after j turns the first j octets are moved, and those not yet moved stand
 -- where they stood.
-use mathlib.Core.Path.{_≡_, refl, sym, ap, _∙_}
+use mathlib.Core.Path.{_≡_, sym, _∙_}
 use mathlib.Core.List.{List}
 use Prim.Native.Nat.{ℕ, _+_, _-_, _≤_, _<_}
 use native.Mathlib.Nat.{zero-add}

@@ -2,7 +2,7 @@
 -- equal.
 use Prim.Native.Nat.{ℕ, _≤_, _<_, _+_, _-_}
 use native.Mathlib.Omega.{arith}
-use mathlib.Core.Bool.{true, true≢false}
+use mathlib.Core.Bool.{true≢false}
 use mathlib.Core.Path.{_≡_, sym}
 use lib.ListN.{getD}
 use borrow.Author.Count.{below-more}

@@ -1,0 +1,3 @@
+-- The definitions of the controller's state.
+pub mod State
+pub mod Holding

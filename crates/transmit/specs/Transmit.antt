@@ -1,0 +1,54 @@
+-- What queueing a packet and taking a link's packets do to the links, to the pool and to the buffer that packets are taken
+-- into. For the controller's `acl` and `take_transmit`. What no definition decides is which place a queued packet gets: one
+-- that no other waiting packet owns.
+use mathlib.Core.Path.{_≡_}
+use Prim.Native.Nat.{ℕ, _+_, _*_, _≤_, _<_}
+use mathlib.Core.List.{List, map, flatten}
+use mathlib.Core.Bool.{Bool, true, false}
+use lib.Dec.{leb}
+use lib.ListN.{length}
+use Rattle.octets.specs.Octets.{splice}
+use Rattle.links.specs.Links.{Model, opened, has, view, enqueued, takenFrom, afterTaking}
+use Rattle.links.specs.Holding.{LinksHold}
+use Rattle.links.specs.declared.Links.{Links}
+use Rattle.transmit.specs.declared.Taken.{Taken}
+
+-- what the pool must be for links that hold together: a place of `size` octets for each of `places` packets
+pub record PoolFits (s : Links) (size places : ℕ) (pool : List ℕ) : Type 0 where
+  pub held : LinksHold s places size
+  pub most : places ≤ 32
+  pub small : size ≤ 1024
+  pub room : places * size ≤ length pool
+
+-- when a packet of n octets can be queued for a link: fewer packets are in use than there are places
+pub record CanQueue (s : Links) (size places handle n : ℕ) (pool packet : List ℕ) : Type 0 where
+  pub fits : PoolFits s size places pool
+  pub linked : has handle (opened s) ≡ true
+  pub free : s .«waiting_count» + s .«in_flight» < places
+  pub least : 5 ≤ n
+  pub most : n ≤ size
+  pub given : n ≤ length packet
+
+-- the packet waits last; the other packets' octets, and everything else, are as they were
+pub record Queued (s : Links) (size places handle : ℕ) (octets pool : List ℕ) (r : Links) (after : List ℕ) : Type 0 where
+  pub viewed : view r size after ≡ enqueued handle octets (view s size pool)
+  pub held : LinksHold r places size
+  pub sameLength : length after ≡ length pool
+
+-- the packets to be taken, end to end
+abbrev pub takenOctets : ℕ → ℕ → Model → List ℕ
+takenOctets h most m = flatten (map (λ p. p .octets) (takenFrom h most m))
+
+-- question 7: does the buffer hold them all?
+abbrev pub roomFor : ℕ → ℕ → Model → List ℕ → Bool
+roomFor h most m out = leb (length (takenOctets h most m)) (length out)
+
+-- what taking gives: where the buffer has room, the packets at its front and the rest of it as it was
+pub record Takes (s : Links) (size places handle most : ℕ) (pool out : List ℕ) (r : Taken) (after : List ℕ) : Type 0 where
+  pub asked : r .fits ≡ roomFor handle most (view s size pool) out
+  pub viewed : r .fits ≡ true → view (r .links) size pool ≡ afterTaking handle most (view s size pool)
+  pub held : LinksHold (r .links) places size
+  pub counted : r .fits ≡ true → r .count ≡ length (takenFrom handle most (view s size pool))
+  pub measured : r .fits ≡ true → r .len ≡ length (takenOctets handle most (view s size pool))
+  pub written : r .fits ≡ true → after ≡ splice out 0 (takenOctets handle most (view s size pool))
+  pub refused : r .fits ≡ false → (r .links ≡ s) × (after ≡ out) × (r .count ≡ 0) × (r .len ≡ 0)
