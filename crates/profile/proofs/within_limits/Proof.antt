@@ -12,14 +12,14 @@ returns-2 : tie.Need-returns-2
 unfolding withinLimits
 returns-2 c =
     let t1 = c .before .before in
-    rw (le-leb _ _ (t1 .if1 .left), lt-leb _ _ (c .if2 .taken))
+    rw (le-leb _ _ (t1 .if1 .left), lt-leb _ 1019 (c .if2 .taken))
 
 returns-3 : tie.Need-returns-3
 unfolding withinLimits
 returns-3 c =
     let t2 = c .before .before in
     let t1 = t2 .before .before in
-    rw (le-leb _ _ (t1 .if1 .left), le-leb _ _ (t2 .if2 .left), lt-leb _ _ (c .if3 .taken))
+    rw (le-leb _ _ (t1 .if1 .left), le-leb _ 1019 (t2 .if2 .left), lt-leb _ _ (c .if3 .taken))
 
 returns-4 : tie.Need-returns-4
 unfolding withinLimits
@@ -27,7 +27,7 @@ returns-4 c =
     let t3 = c .before .before in
     let t2 = t3 .before .before in
     let t1 = t2 .before .before in
-    rw (le-leb _ _ (t1 .if1 .left), le-leb _ _ (t2 .if2 .left), le-leb _ _ (t3 .if3 .left), lt-leb _ _ (c .if4 .taken))
+    rw (le-leb _ _ (t1 .if1 .left), le-leb _ 1019 (t2 .if2 .left), le-leb _ _ (t3 .if3 .left), lt-leb _ _ (c .if4 .taken))
 
 returns-5 : tie.Need-returns-5
 unfolding withinLimits
@@ -36,7 +36,7 @@ returns-5 c =
     let t3 = t4 .before .before in
     let t2 = t3 .before .before in
     let t1 = t2 .before .before in
-    rw (le-leb _ _ (t1 .if1 .left), le-leb _ _ (t2 .if2 .left), le-leb _ _ (t3 .if3 .left))
+    rw (le-leb _ _ (t1 .if1 .left), le-leb _ 1019 (t2 .if2 .left), le-leb _ _ (t3 .if3 .left))
     (rw (le-leb _ _ (t4 .if4 .left), lt-leb _ _ (c .if5 .taken)))
 
 returns-6 : tie.Need-returns-6
@@ -47,7 +47,7 @@ returns-6 c =
     let t3 = t4 .before .before in
     let t2 = t3 .before .before in
     let t1 = t2 .before .before in
-    rw (le-leb _ _ (t1 .if1 .left), le-leb _ _ (t2 .if2 .left), le-leb _ _ (t3 .if3 .left))
+    rw (le-leb _ _ (t1 .if1 .left), le-leb _ 1019 (t2 .if2 .left), le-leb _ _ (t3 .if3 .left))
     (rw (le-leb _ _ (t4 .if4 .left), le-leb _ _ (t5 .if5 .left)))
 
 pub within-limits-spec : {M : Type 1} → statement M

@@ -1,4 +1,5 @@
 -- `links::look::can_open` meets its contract.
+use Prim.Native.Nat.{_<_}
 use mathlib.Core.Bool.{or-true, or-false}
 use lib.Seq.{length-take-le}
 use borrow.Author.Tests.{lt-ltb, le-ltb}
@@ -17,7 +18,8 @@ returns c =
     let long : length (s .links .connections) ≡ 16 = search (needs, length-of-map) in
     let n : length (opened (s .links)) ≡ s .links .count = length-take-le (s .links .count) (s .links .connections)
     (omega arith) in
-    rw (n, lt-ltb _ _ (c .if1 .taken)) (sym (or-true (has (s .handle) (opened (s .links)))))
+    let few : s .links .count < 16 = omega (arith, c .if1 .taken) in
+    rw (n, lt-ltb _ _ few) (sym (or-true (has (s .handle) (opened (s .links)))))
 
 has-requires : tie.Need-has-requires
 has-requires c κs = search needs
