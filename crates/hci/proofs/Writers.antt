@@ -1,5 +1,5 @@
 -- The ways a writer ends, each as one law, for the proofs of the writers and of those who call them.
-use mathlib.Core.Path.{_≡_, _∙_}
+use mathlib.Core.Path.{_≡_, _∙_, sym}
 use Prim.Native.Nat.{ℕ, _≤_, _<_}
 use mathlib.Core.List.{List, _∷_}
 use lib.ListN.{length}
@@ -7,7 +7,7 @@ use native.Mathlib.Omega.{arith}
 use borrow.Author.Tests.{le-leb, lt-leb}
 use Rattle.octets.specs.Octets.{Put}
 use Rattle.octets.proofs.Writing.{splice-front}
-use Rattle.hci.specs.Write.{Wrote, WroteEvent, refusal}
+use Rattle.hci.specs.Write.{Wrote, WroteEvent, count, refusal}
 use Rattle.hci.specs.declared.write.Written.{Written}
 use Rattle.hci.specs.declared.write.Written.the-variants.{Octets, TooLong, NoRoom}
 
@@ -35,6 +35,18 @@ written {n} {most} {packet} {out} {k} f p =
       numbered = simp (le-leb n most f, le-leb (length packet) (length out) h);
       counted = simp (le-leb n most f, le-leb (length packet) (length out) h) e;
       leaves = simp (le-leb n most f, le-leb (length packet) (length out) h) (p .leaves ∙ splice-front out packet);
+    }
+
+-- and back: what no question refuses was written
+pub wrote-put : {n most : ℕ} {packet out : List ℕ} {r : Written} {after : List ℕ} → Wrote n most packet out r after → n ≤ most → length packet ≤ length out
+    → Put out 0 packet (count r) after
+unfolding refusal
+wrote-put {n} {most} {packet} {out} {r} w f h =
+    let e : count r ≡ length packet = w .counted ∙ simp (le-leb n most f, le-leb (length packet) (length out) h) in
+    record {
+      room = omega arith;
+      next = omega arith;
+      leaves = w .leaves ∙ simp (le-leb n most f, le-leb (length packet) (length out) h) (sym (splice-front out packet));
     }
 
 -- what was written with no length field to ask about serves where the length is within the field

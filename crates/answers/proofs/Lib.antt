@@ -1,0 +1,2 @@
+-- The laws of answers as octets.
+pub mod Events

@@ -1,0 +1,2 @@
+-- The definitions of a command's answer.
+pub mod Answers
