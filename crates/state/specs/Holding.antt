@@ -1,5 +1,5 @@
 -- Question 3: does the state hold together? Document 01's conditions, each as a test that computes, and the same as facts
--- that proofs use; `stateHolds` in `proofs/Holding.antt` goes from one to the other. For the controller's calls.
+-- that proofs use; `state-told` and `state-tested` in `proofs/Holding.antt` go from one to the other. For the controller's calls.
 use mathlib.Core.Path.{_≡_}
 use Prim.Native.Nat.{ℕ, _+_, _≤_}
 use mathlib.Core.Bool.{Bool, true, _&&_}

@@ -96,4 +96,12 @@ module _ {s : Links} {size places handle n place : ℕ} {pool packet : List ℕ}
       -- what `enqueue` promises
       pub queued : {r : ℕ} {after : List ℕ} → Put pool (place * size) (take n packet) r after
           → Queued s size places handle (take n packet) pool (pushed s (record { handle = handle; len = n; place = place })) after
-      queued p = record { viewed = rw (p .leaves) queued-view; held = queued-holds; sameLength = put-long p }
+      queued p = record {
+        viewed = rw (p .leaves) queued-view;
+        held = queued-holds;
+        place = place;
+        within = queue-place;
+        free = found .free;
+        stored = p .leaves;
+        sameLength = put-long p;
+      }

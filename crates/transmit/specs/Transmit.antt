@@ -8,8 +8,9 @@ use mathlib.Core.Bool.{Bool, true, false}
 use lib.Dec.{leb}
 use lib.ListN.{length}
 use Rattle.octets.specs.Octets.{splice}
-use Rattle.links.specs.Links.{Model, opened, has, view, enqueued, takenFrom, afterTaking}
-use Rattle.links.specs.Holding.{LinksHold}
+use Rattle.lists.specs.Lists.{any, keyed}
+use Rattle.links.specs.Links.{Model, opened, waitingOf, has, view, enqueued, takenFrom, afterTaking}
+use Rattle.links.specs.Holding.{LinksHold, placeOf}
 use Rattle.links.specs.declared.Links.{Links}
 use Rattle.transmit.specs.declared.Taken.{Taken}
 
@@ -29,10 +30,15 @@ pub record CanQueue (s : Links) (size places handle n : ℕ) (pool packet : List
   pub most : n ≤ size
   pub given : n ≤ length packet
 
--- the packet waits last; the other packets' octets, and everything else, are as they were
+-- the packet waits last; the other packets' octets, and everything else, are as they were. Its octets stand in some place
+-- that no packet owned, and no other octet of the pool changes, be it in an unused place or past the places
 pub record Queued (s : Links) (size places handle : ℕ) (octets pool : List ℕ) (r : Links) (after : List ℕ) : Type 0 where
   pub viewed : view r size after ≡ enqueued handle octets (view s size pool)
   pub held : LinksHold r places size
+  pub place : ℕ
+  pub within : place < places
+  pub free : any (keyed placeOf place) (waitingOf s) ≡ false
+  pub stored : after ≡ splice pool (place * size) octets
   pub sameLength : length after ≡ length pool
 
 -- the packets to be taken, end to end
