@@ -102,3 +102,11 @@ pub put-front : {xs ys : List ℕ} {r : ℕ} {after : List ℕ} → Put xs 0 ys 
 put-front {xs} {ys} {r} {after} p =
     let n : r ≡ length ys = omega (arith, p .next) in
     rw (n, p .leaves) (splice-written xs 0 ys (omega arith))
+
+-- as many octets as were written
+pub put-front-long : {xs ys : List ℕ} {r : ℕ} {after : List ℕ} → Put xs 0 ys r after → length (take r after) ≡ r
+put-front-long p = ap length (put-front p) ∙ omega (arith, p .next)
+
+-- a buffer that is written from end to end holds what was written
+pub put-whole : {xs ys after : List ℕ} {r : ℕ} → Put xs 0 ys r after → length xs ≡ length ys → after ≡ ys
+put-whole {xs} {ys} p e = p .leaves ∙ splice-front xs ys ∙ rw (sym e, drop-length) (append-nil ys)

@@ -1,15 +1,15 @@
 // The state of one controller, by value: the source's `Controller` in groups, lists as arrays beside their counts. For the
 // controller's commands and notices. Contracts cite `specs/State.antt`.
 
-mod answers;
+mod history;
 mod hold;
 mod legacy;
 mod look;
 mod start;
 
-pub use answers::remember;
 use filters::AcceptList;
 use filters::ResolvingList;
+pub use history::remember;
 pub use hold::holds;
 use links::Links;
 pub use look::accept_list_in_use;

@@ -1,0 +1,2 @@
+-- The laws of the commands of `le`'s first half.
+pub mod Loading

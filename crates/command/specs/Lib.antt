@@ -1,0 +1,2 @@
+-- What the functions of `command` count on and give.
+pub mod Calling

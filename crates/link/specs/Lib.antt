@@ -1,0 +1,2 @@
+-- Root of the definitions of `link`.
+pub mod Link

@@ -1,0 +1,2 @@
+-- The definitions that contracts about signed numbers cite.
+pub mod Signed
