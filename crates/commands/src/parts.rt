@@ -48,6 +48,26 @@ pub struct LinksAnswered {
     pub answer: Answer,
 }
 
+// Settings as they are to be, refused or not, and a status.
+pub fn settings_answered(settings: Settings, code: u8) -> SettingsAnswered
+    ensures { λ r. ⌜ (r .settings ≡ settings) × Answers (done code) (r .answer) ⌝ }
+{
+    SettingsAnswered {
+        settings,
+        answer: answers::done(code),
+    }
+}
+
+// The resolving list as it is to be, refused or not, and a status.
+pub fn list_answered(list: ResolvingList, code: u8) -> ResolvingAnswered
+    ensures { λ r. ⌜ (r .«resolving_list» ≡ list) × Answers (done code) (r .answer) ⌝ }
+{
+    ResolvingAnswered {
+        resolving_list: list,
+        answer: answers::done(code),
+    }
+}
+
 // A command that changes nothing.
 pub fn unchanged(s: Controller, answer: Answer) -> Answered
     ensures { λ r. ⌜ (r .state ≡ s) × (r .answer ≡ answer) ⌝ }

@@ -4,7 +4,6 @@ ghost use lib.ListN.{length};
 ghost use Rattle.commands.specs.Put.{putSettings};
 ghost use Rattle.commands.specs.Outcome.{Answers, GivesAny};
 ghost use Rattle.commands.specs.Privacy.{readResolvableAddress, setAddressResolution, setAddressTimeout};
-use crate::part::settings_answered;
 use answers::Answer;
 use commands::SettingsAnswered;
 use hci::status::COMMAND_DISALLOWED;
@@ -28,13 +27,13 @@ pub fn set_address_resolution(s: Controller, p: &[u8]) -> SettingsAnswered
     let mut settings = s.settings;
     let enable = p[0];
     if enable > 1 {
-        return settings_answered(settings, INVALID_PARAMETERS);
+        return commands::settings_answered(settings, INVALID_PARAMETERS);
     }
     if state::busy(s) {
-        return settings_answered(settings, COMMAND_DISALLOWED);
+        return commands::settings_answered(settings, COMMAND_DISALLOWED);
     }
     settings.address_resolution = enable == 1;
-    settings_answered(settings, SUCCESS)
+    commands::settings_answered(settings, SUCCESS)
 }
 
 // LE Set Resolvable Private Address Timeout (section 7.8.45): 1 s to 1 hour.
@@ -45,8 +44,8 @@ pub fn set_address_timeout(s: Controller, p: &[u8]) -> SettingsAnswered
     let mut settings = s.settings;
     let timeout = octets::word_at(p, 0);
     if !commands::within(0x0001, 0x0E10, timeout) {
-        return settings_answered(settings, INVALID_PARAMETERS);
+        return commands::settings_answered(settings, INVALID_PARAMETERS);
     }
     settings.rpa_timeout = timeout;
-    settings_answered(settings, SUCCESS)
+    commands::settings_answered(settings, SUCCESS)
 }

@@ -14,7 +14,6 @@ use profile::ControllerRow;
 use state::Controller;
 
 mod addresses;
-mod part;
 mod phy;
 mod preference;
 mod resolving;

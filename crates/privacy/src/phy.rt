@@ -6,7 +6,6 @@ ghost use Rattle.links.specs.Links.{opened};
 ghost use Rattle.commands.specs.Put.{putSettings, putLinks};
 ghost use Rattle.commands.specs.Outcome.{Answers, GivesAny};
 ghost use Rattle.commands.specs.Privacy.{readMaximumDataLength, readPhy, setDefaultPhy, setPhy};
-use crate::part::settings_answered;
 use crate::preference::phy_preference_empty;
 use crate::preference::phy_preference_unsupported;
 use crate::preference::pick_phy;
@@ -75,13 +74,13 @@ pub fn set_default_phy(s: Controller, profile: ControllerRow, p: &[u8]) -> Setti
     let tx = p[1];
     let rx = p[2];
     if phy_preference_empty(all, tx, rx) {
-        return settings_answered(settings, INVALID_PARAMETERS);
+        return commands::settings_answered(settings, INVALID_PARAMETERS);
     }
     if phy_preference_unsupported(profile, all, tx, rx) {
-        return settings_answered(settings, UNSUPPORTED_FEATURE);
+        return commands::settings_answered(settings, UNSUPPORTED_FEATURE);
     }
     settings.default_phy = [all, tx, rx];
-    settings_answered(settings, SUCCESS)
+    commands::settings_answered(settings, SUCCESS)
 }
 
 // LE Set PHY (section 7.8.49): the handle alone is tested.

@@ -10,7 +10,6 @@ ghost use Rattle.commands.specs.Put.{putResolvingList};
 ghost use Rattle.commands.specs.Outcome.{Answers, Gives, GivesAny, Ready};
 ghost use Rattle.commands.specs.Privacy.{addToResolvingList, removeFromResolvingList, clearResolvingList, readResolvingListSize, setPrivacyMode};
 ghost use Rattle.commands.specs.Privacy.{locked as isLocked};
-use crate::part::list_answered;
 use answers::Answer;
 use commands::ResolvingAnswered;
 use filters::ResolvingList;
@@ -49,19 +48,19 @@ pub fn add_to_resolving_list(s: Controller, profile: ControllerRow, p: &[u8]) ->
 {
     let list = s.resolving_list;
     if locked(s) {
-        return list_answered(list, COMMAND_DISALLOWED);
+        return commands::list_answered(list, COMMAND_DISALLOWED);
     }
     if p[0] > 1 {
-        return list_answered(list, INVALID_PARAMETERS);
+        return commands::list_answered(list, INVALID_PARAMETERS);
     }
     let identity = filters::identity(p);
     if listed(list, identity) {
-        return list_answered(list, INVALID_PARAMETERS);
+        return commands::list_answered(list, INVALID_PARAMETERS);
     }
     if list.count >= (profile.resolving_list_size as usize) {
-        return list_answered(list, MEMORY_CAPACITY_EXCEEDED);
+        return commands::list_answered(list, MEMORY_CAPACITY_EXCEEDED);
     }
-    list_answered(list.push(identity), SUCCESS)
+    commands::list_answered(list.push(identity), SUCCESS)
 }
 
 // LE Remove Device From Resolving List (section 7.8.39).
@@ -71,13 +70,13 @@ pub fn remove_from_resolving_list(s: Controller, p: &[u8]) -> ResolvingAnswered
 {
     let list = s.resolving_list;
     if locked(s) {
-        return list_answered(list, COMMAND_DISALLOWED);
+        return commands::list_answered(list, COMMAND_DISALLOWED);
     }
     let identity = filters::identity(p);
     if !listed(list, identity) {
-        return list_answered(list, UNKNOWN_CONNECTION);
+        return commands::list_answered(list, UNKNOWN_CONNECTION);
     }
-    list_answered(list.remove(identity), SUCCESS)
+    commands::list_answered(list.remove(identity), SUCCESS)
 }
 
 // LE Clear Resolving List (section 7.8.40).
@@ -86,9 +85,9 @@ pub fn clear_resolving_list(s: Controller) -> ResolvingAnswered
 {
     if locked(s) {
         let list = s.resolving_list;
-        return list_answered(list, COMMAND_DISALLOWED);
+        return commands::list_answered(list, COMMAND_DISALLOWED);
     }
-    list_answered(ResolvingList::new(), SUCCESS)
+    commands::list_answered(ResolvingList::new(), SUCCESS)
 }
 
 // LE Read Resolving List Size (section 7.8.41).
@@ -105,15 +104,15 @@ pub fn set_privacy_mode(s: Controller, p: &[u8]) -> ResolvingAnswered
 {
     let list = s.resolving_list;
     if locked(s) {
-        return list_answered(list, COMMAND_DISALLOWED);
+        return commands::list_answered(list, COMMAND_DISALLOWED);
     }
     let mode = p[7];
     if mode > 1 {
-        return list_answered(list, INVALID_PARAMETERS);
+        return commands::list_answered(list, INVALID_PARAMETERS);
     }
     let identity = filters::identity(p);
     if !listed(list, identity) {
-        return list_answered(list, UNKNOWN_CONNECTION);
+        return commands::list_answered(list, UNKNOWN_CONNECTION);
     }
-    list_answered(list.set_mode(identity, mode), SUCCESS)
+    commands::list_answered(list.set_mode(identity, mode), SUCCESS)
 }

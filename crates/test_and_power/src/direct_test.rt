@@ -11,7 +11,6 @@ ghost use Rattle.commands.specs.Outcome.{Gives, GivesAny, Ready};
 ghost use Rattle.commands.specs.Put.{putSettings};
 ghost use Rattle.commands.specs.Test.{idle as isIdle};
 ghost use Rattle.commands.specs.Test.{testPhy, startTest, testEnd, receiverTest, transmitterTest, receiverTest2, transmitterTest2};
-use crate::with_status;
 use commands::SettingsAnswered;
 use links::Links;
 use profile::ControllerRow;
@@ -66,16 +65,16 @@ fn start_test(
     ensures { λ r. ⌜ Gives (startTest profile transmit channel phy allowed) profile s (putSettings (r .settings) s) (r .answer) ⌝ }
 {
     if !idle(s) {
-        return with_status(s.settings, 0x0C);
+        return commands::settings_answered(s.settings, 0x0C);
     }
     if channel > 0x27 {
-        return with_status(s.settings, 0x12);
+        return commands::settings_answered(s.settings, 0x12);
     }
     if !test_phy(profile, transmit, phy) {
-        return with_status(s.settings, 0x11);
+        return commands::settings_answered(s.settings, 0x11);
     }
     if !allowed {
-        return with_status(s.settings, 0x12);
+        return commands::settings_answered(s.settings, 0x12);
     }
     let mut settings = s.settings;
     settings.test = if transmit {
@@ -83,7 +82,7 @@ fn start_test(
     } else {
         state::RECEIVER_TEST
     };
-    with_status(settings, 0)
+    commands::settings_answered(settings, 0)
 }
 
 // LE Receiver Test v1 (section 7.8.28): LE 1M.

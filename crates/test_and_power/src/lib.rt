@@ -5,13 +5,11 @@ ghost use mathlib.Core.Bool.{true};
 ghost use mathlib.Core.List.{List};
 ghost use Prim.Native.Nat.{ℕ};
 ghost use lib.ListN.{length};
-ghost use Rattle.commands.specs.Outcome.{Answers, Gives, Ready, done, given};
+ghost use Rattle.commands.specs.Outcome.{Gives, Ready, given};
 ghost use Rattle.commands.specs.Table.{find, sized, testRows};
 use commands::Answered;
-use commands::SettingsAnswered;
 use profile::ControllerRow;
 use state::Controller;
-use state::Settings;
 
 mod direct_test;
 mod power;
@@ -34,16 +32,7 @@ pub fn test_and_power(s: Controller, profile: ControllerRow, op: u16, p: &[u8]) 
         0x204B => commands::unchanged(s, power::read_power_range(profile)),
         0x204C => commands::unchanged(s, power::read_path_compensation(s.settings)),
         0x204D => commands::put_settings(s, power::write_path_compensation(s, p)),
+        // No row of the table has another opcode, so `requires` rules it out.
         _ => commands::unchanged(s, answers::done(0x01)),
-    }
-}
-
-// Settings beside a Command Complete of a status alone.
-fn with_status(settings: Settings, code: u8) -> SettingsAnswered
-    ensures { λ r. ⌜ (r .settings ≡ settings) × Answers (done code) (r .answer) ⌝ }
-{
-    SettingsAnswered {
-        settings,
-        answer: answers::done(code),
     }
 }

@@ -7,7 +7,6 @@ ghost use Rattle.signed.specs.Signed.{compensationAllowed};
 ghost use Rattle.commands.specs.Outcome.{Answers, GivesAny};
 ghost use Rattle.commands.specs.Put.{putSettings};
 ghost use Rattle.commands.specs.Test.{readPowerRange, readPathCompensation, writePathCompensation};
-use crate::with_status;
 use answers::Answer;
 use commands::SettingsAnswered;
 use profile::ControllerRow;
@@ -45,16 +44,16 @@ pub fn write_path_compensation(s: Controller, p: &[u8]) -> SettingsAnswered
     ensures { λ r. ⌜ GivesAny (writePathCompensation (now (p .entry))) s (putSettings (r .settings) s) (r .answer) ⌝ }
 {
     if !allowed_at(p, 0) {
-        return with_status(s.settings, 0x12);
+        return commands::settings_answered(s.settings, 0x12);
     }
     if !allowed_at(p, 2) {
-        return with_status(s.settings, 0x12);
+        return commands::settings_answered(s.settings, 0x12);
     }
     let transmit = octets::word_at(p, 0);
     let receive = octets::word_at(p, 2);
     let mut settings = s.settings;
     settings.rf_path_compensation = [transmit, receive];
-    with_status(settings, 0)
+    commands::settings_answered(settings, 0)
 }
 
 // Whether the two octets at index at, as a signed number, are a path compensation.

@@ -23,17 +23,17 @@ is-idle s e n size pool = sym (e size pool) ∙ not-false _ n
 idle-requires : tie.Need-idle-requires
 idle-requires c κs = search needs
 
-with-status-requires : tie.Need-with-status-requires
-with-status-requires c κs = search needs
+settings-answered-requires : tie.Need-settings-answered-requires
+settings-answered-requires c κs = search needs
 
 returns : tie.Need-returns
 unfolding startTest
 returns c =
-    gives-part putSettings (c .with-status .ensures) (λ size pool. rw (sym (c .before .before .idle .ensures size pool) ∙ not-true _ (c .before .if1 .taken)))
+    gives-part putSettings (c .settings-answered .ensures) (λ size pool. rw (sym (c .before .before .idle .ensures size pool) ∙ not-true _ (c .before .if1 .taken)))
     (c .before .before .before .pre .holds)
 
-with-status-requires-2 : tie.Need-with-status-requires-2
-with-status-requires-2 c κs = search needs
+settings-answered-requires-2 : tie.Need-settings-answered-requires-2
+settings-answered-requires-2 c κs = search needs
 
 returns-2 : tie.Need-returns-2
 unfolding startTest
@@ -41,14 +41,14 @@ returns-2 c =
     let s = c .before .before .before .before in
     let idles = is-idle (s .args .s) (c .before .before .before .idle .ensures) (c .before .before .if1 .left) in
     let above : 0x27 < s .args .channel = omega (arith, c .before .if2 .taken) in
-    gives-part putSettings (c .with-status2 .ensures) (λ size pool. rw (idles size pool, lt-ltb _ _ above))
+    gives-part putSettings (c .settings-answered2 .ensures) (λ size pool. rw (idles size pool, lt-ltb _ _ above))
     (s .pre .holds)
 
 test-phy-requires : tie.Need-test-phy-requires
 test-phy-requires c κs = search needs
 
-with-status-requires-3 : tie.Need-with-status-requires-3
-with-status-requires-3 c κs = search needs
+settings-answered-requires-3 : tie.Need-settings-answered-requires-3
+settings-answered-requires-3 c κs = search needs
 
 returns-3 : tie.Need-returns-3
 unfolding startTest
@@ -57,11 +57,11 @@ returns-3 c =
     let idles = is-idle (s .args .s) (c .before .before .before .before .before .idle .ensures) (c .before .before .before .before .if1 .left) in
     let within : s .args .channel ≤ 0x27 = omega (arith, c .before .before .before .if2 .left) in
     let without = sym (c .before .before .test-phy .ensures) ∙ not-true _ (c .before .if3 .taken) in
-    gives-part putSettings (c .with-status3 .ensures) (λ size pool. rw (idles size pool, le-ltb _ _ within, without))
+    gives-part putSettings (c .settings-answered3 .ensures) (λ size pool. rw (idles size pool, le-ltb _ _ within, without))
     (s .pre .holds)
 
-with-status-requires-4 : tie.Need-with-status-requires-4
-with-status-requires-4 c κs = search needs
+settings-answered-requires-4 : tie.Need-settings-answered-requires-4
+settings-answered-requires-4 c κs = search needs
 
 returns-4 : tie.Need-returns-4
 unfolding startTest
@@ -71,11 +71,11 @@ returns-4 c =
     let within : s .args .channel ≤ 0x27 = omega (arith, c .before .before .before .before .if2 .left) in
     let has = sym (c .before .before .before .test-phy .ensures) ∙ not-false _ (c .before .before .if3 .left) in
     let refused = not-true (s .args .allowed) (c .before .if4 .taken) in
-    gives-part putSettings (c .with-status4 .ensures) (λ size pool. rw (idles size pool, le-ltb _ _ within, has, refused))
+    gives-part putSettings (c .settings-answered4 .ensures) (λ size pool. rw (idles size pool, le-ltb _ _ within, has, refused))
     (s .pre .holds)
 
-with-status-requires-5 : tie.Need-with-status-requires-5
-with-status-requires-5 c κs = search needs
+settings-answered-requires-5 : tie.Need-settings-answered-requires-5
+settings-answered-requires-5 c κs = search needs
 
 returns-5 : tie.Need-returns-5
 unfolding startTest
@@ -89,7 +89,7 @@ returns-5 c =
     let stored : test ≡ cond (s .args .transmit) 2 1 =
     ⊎-elim (λ w. rw (w .0 .taken) (w .1)) (λ w. rw (w .0 .left) (w .1)) (c .before .if5 .came) in
     let most : test ≤ 2 = ⊎-elim (λ w. omega arith) (λ w. omega arith) (c .before .if5 .came) in
-    gives-part putSettings (c .with-status5 .ensures) (λ size pool. rw (idles size pool, le-ltb _ _ within, has, allows, stored))
+    gives-part putSettings (c .settings-answered5 .ensures) (λ size pool. rw (idles size pool, le-ltb _ _ within, has, allows, stored))
     (holds-settings (s .pre .holds) (record { family = s .pre .holds .settings .family; tested = most }))
 
 pub start-test-spec : {M : Type 1} → statement M
@@ -97,14 +97,14 @@ start-test-spec =
     tie.close
     (tie.spec
     idle-requires
-    with-status-requires
+    settings-answered-requires
     returns
-    with-status-requires-2
+    settings-answered-requires-2
     returns-2
     test-phy-requires
-    with-status-requires-3
+    settings-answered-requires-3
     returns-3
-    with-status-requires-4
+    settings-answered-requires-4
     returns-4
-    with-status-requires-5
+    settings-answered-requires-5
     returns-5)

@@ -1,0 +1,151 @@
+-- One call, refused or accepted: if host and link keep their parts at it, the book still agrees with the state after it, and a
+-- data packet was kept. For the proof of `credits`.
+use mathlib.Core.Path.{_≡_, refl, sym, _∙_}
+use mathlib.Core.Bool.{Bool, true, false, cond}
+use mathlib.Core.List.{[], _∷_}
+use Prim.Native.Nat.{ℕ, zero, suc, _≤_}
+use native.Mathlib.Omega.{arith}
+use lib.Dec.{eqb}
+use borrow.Author.Tests.{eqb-true, eqb-false}
+use borrow.Table.Steps.{cases}
+use Rattle.lists.specs.Lists.{any}
+use Rattle.credits.specs.Book.{Packet, acl, badHeader, setEventMask, Call, packet, opening, taking, completed, dropping, report, disconnected, eventMaskSet, Answer, Book, noted, heard, heardAll, book}
+use Rattle.credits.specs.Premises.{Profile, WellFormed, OpensUnused, Unmasked, DropsEnded, DropsNoOther, LinkKeeps}
+use Rattle.credits.specs.Credits.{Buffers, Kept}
+use Rattle.credits.proofs.Handles.{has, never, times-last-same}
+use Rattle.credits.proofs.Steps.{State, queued, ended, settled, fits, mayPass, events, at, Step, refusal, pass, reset, mask, receive, connect, take, complete, discard, disconnect}
+use Rattle.credits.proofs.Bounds.{fits-parts, fits-all}
+use Rattle.credits.proofs.Agrees.{Agrees, agrees-initial, counts, agrees-queued, agrees-opened, agrees-taken, agrees-reported, agrees-none, agrees-ended, agrees-dropped}
+
+-- the premises at one call
+pub record Obeys (k : Profile) (b : Book) (c : Call) (a : Answer) : Type 0 where
+  pub rule : WellFormed k b c
+  pub unmasked : Unmasked c a
+  pub unused : OpensUnused b c a
+  pub link : LinkKeeps b c
+
+-- ---- the premise about drops
+-- a call that is no drop comes when `ended` is 0
+none-ended : (b : Book) (c : Call) → DropsEnded b c → ((n : ℕ) → c ≡ dropping n → ⊥) → b .ended ≡ 0
+none-ended b c w unless = go (b .ended) refl
+  where
+    go : (n : ℕ) → b .ended ≡ n → b .ended ≡ 0
+    go zero e = e
+    go (suc n) e =
+        let x : (m : ℕ) × (c ≡ dropping m) × (m ≤ b .ended) = w (omega arith) in
+        absurd (unless (x .0) (x .1))
+
+-- a drop is of at most `ended`
+at-most-ended : (n : ℕ) (b : Book) → DropsEnded b (dropping n) → DropsNoOther b (dropping n) → n ≤ b .ended
+at-most-ended n b w other = go (b .ended) refl
+  where
+    go : (m : ℕ) → b .ended ≡ m → n ≤ b .ended
+    go zero e = omega (arith, other n refl e)
+    go (suc m) e =
+        let x : (j : ℕ) × (dropping n ≡ dropping j) × (j ≤ b .ended) = w (omega arith) in
+        let z : dropping n ≡ dropping (x .0) = x .1 in
+        let y : n ≡ x .0 = cc in
+        omega (arith, x .2)
+
+-- ---- a call that does nothing
+book-passed : (b : Book) (c : Call) → mayPass c ≡ true → book b c (events []) ≡ b
+unfolding book noted heardAll
+book-passed b (packet (acl h n)) e = never false e refl
+book-passed b (packet badHeader) e = refl
+book-passed b (packet (setEventMask bit)) e = refl
+book-passed b (packet Packet.other) e = refl
+book-passed b (opening h) e = never false e refl
+book-passed b (taking h) e = never false e refl
+book-passed b (completed h n) e = never false e refl
+book-passed b (dropping n) e = never false e refl
+book-passed b Call.other e = refl
+
+kept-passed : (k : Profile) (b : Book) (c : Call) (s : Buffers) → mayPass c ≡ true → WellFormed k b c → Kept c s s
+kept-passed k b (packet (acl h n)) s e w = never false e refl
+kept-passed k b (packet badHeader) s e w = w
+kept-passed k b (packet (setEventMask bit)) s e w = tt
+kept-passed k b (packet Packet.other) s e w = tt
+kept-passed k b (opening h) s e w = tt
+kept-passed k b (taking h) s e w = tt
+kept-passed k b (completed h n) s e w = tt
+kept-passed k b (dropping n) s e w = tt
+kept-passed k b Call.other s e w = tt
+
+-- ---- what an accepted call leaves, and that it kept its packet
+abbrev pub Fine : Book → Call → State → State → Answer → Type 0
+Fine b c s t a = Agrees t (book b c a) × Kept c (s .buffers) (t .buffers)
+
+module _ (k : Profile) {s : State} {b : Book} (i : Agrees s b) where
+  -- a packet of a host that keeps the rule is queued
+  received-fits : (h n : ℕ) → WellFormed k b (packet (acl h n)) → DropsEnded b (packet (acl h n))
+      → fits k h n (s .buffers) ≡ true
+  received-fits h n w d =
+      let none : b .ended ≡ 0 =
+      none-ended b (packet (acl h n)) d (λ m e. absurd (let z : _≡_ {A = ℕ} 0 1 = cc in omega arith)) in
+      fits-all k h n (s .buffers) (sym (i .opens h) ∙ w .0) (w .1) (omega (arith, counts i, w .2))
+
+  fine-received : (h n : ℕ) → Obeys k b (packet (acl h n)) (events [])
+      → Fine b (packet (acl h n)) s (at (cond (fits k h n (s .buffers)) (queued h (s .buffers)) (s .buffers)) s) (events [])
+  unfolding book noted heardAll
+  fine-received h n w =
+      let e : fits k h n (s .buffers) ≡ true = received-fits h n (w .rule) (w .link .1) in
+      rw e (agrees-queued i h (fits-parts k h n (s .buffers) e .0), times-last-same h (s .buffers .waiting))
+
+  fine-masked : (bit : Bool) → Obeys k b (packet (setEventMask bit)) (events (eventMaskSet ∷ []))
+      → Fine b (packet (setEventMask bit)) s (record { buffers = s .buffers; unmasked = bit }) (events (eventMaskSet ∷ []))
+  unfolding book noted heardAll heard any
+  fine-masked bit w = (
+    record {
+      opens = i .opens;
+      owes = i .owes;
+      shut = i .shut;
+      flying = i .flying;
+      small = i .small;
+      tells = w .unmasked bit refl refl;
+    },
+    tt,
+  )
+
+  fine-completed : (h n : ℕ) (a : Answer) → Obeys k b (completed h n) a
+      → Fine b (completed h n) s (at (settled n (s .buffers)) s) (events (cond (eqb n 0) [] (report h n ∷ [])))
+  unfolding book noted heardAll heard
+  fine-completed h n a w =
+      cases (eqb n 0)
+      (λ e. let zero : n ≡ 0 = eqb-true n 0 e in rw (e, zero) (agrees-none i h, tt))
+      (λ e.
+      let q : (b .isOpen h ≡ true) × (n ≤ b .out h) = w .link .0 h n refl (omega (arith, eqb-false n 0 e)) in
+      rw e (agrees-reported i h n (sym (i .opens h) ∙ q .0) (q .1), tt))
+
+  fine-disconnected : (h : ℕ) → has h (s .buffers .handles) ≡ true
+      → Fine b Call.other s (at (ended h (s .buffers)) s) (events (cond (s .unmasked) (disconnected h ∷ []) []))
+  unfolding book noted heardAll heard
+  fine-disconnected h p = rw (i .tells) (rw (i .tells) at (agrees-ended i h p), tt)
+
+-- ---- one call
+pub step-agrees : {k : Profile} {c : Call} {s t : State} {a : Answer} {b : Book} → Step k c s t a → Agrees s b
+    → (a .accepted ≡ true → Obeys k b c a)
+    → Agrees t (book b c a) × (a .accepted ≡ true → Kept c (s .buffers) (t .buffers))
+unfolding book noted heardAll heard
+step-agrees {a = a} (refusal f e) i w = (rw (e, f) i, λ y. never (a .accepted) y f)
+step-agrees {k} {c} {s} {b = b} (pass p e q) i w =
+    let v : Obeys k b c (events []) = rw q at (w (rw q)) in
+    (rw (e, q, book-passed b c p) i, λ y. rw e (kept-passed k b c (s .buffers) p (v .rule)))
+step-agrees (reset p e q) i w = (rw (e, q) agrees-initial, λ y. rw p tt)
+step-agrees {k} {c} {s} {b = b} (mask bit p e q) i w =
+    let f = fine-masked k i bit (rw (p, q) at (w (rw q))) in
+    (rw (e, q, p) (f .0), λ y. rw p tt)
+step-agrees {k} {c} {s} {b = b} (receive h n p e q) i w =
+    let f = fine-received k i h n (rw (p, q) at (w (rw q))) in
+    (rw (e, q, p) (f .0), λ y. rw (e, p) (f .1))
+step-agrees {k} {c} {s} {b = b} (connect h p l o e q) i w =
+    let v : OpensUnused b (opening h) (record { accepted = true; opened = true; events = []; taken = 0 }) =
+    rw (p, q) at (w (rw q) .unused) in
+    (rw (e, q, p) (agrees-opened i h (sym (i .opens h) ∙ v h refl refl) l), λ y. rw p tt)
+step-agrees (take h most p e q) i w = (rw (e, q, p) (agrees-taken i h most), λ y. rw p tt)
+step-agrees {k} (complete h n p e q) i w =
+    let f = fine-completed k i h n _ (rw p at (w (rw q))) in
+    (rw (e, q, p) (f .0), λ y. rw p tt)
+step-agrees {b = b} (discard n p e q) i w =
+    let v : LinkKeeps b (dropping n) = rw p at (w (rw q) .link) in
+    (rw (e, q, p) (agrees-dropped i n (at-most-ended n b (v .1) (v .2))), λ y. rw p tt)
+step-agrees {k} (disconnect h p o e q) i w = (rw (e, q, p) (fine-disconnected k i h o .0), λ y. rw p tt)

@@ -1,0 +1,112 @@
+-- What one call does to the buffers, as rules. The claim does not speak of them: who proves it of a controller shows that each of
+-- its calls follows one of the rules (`Follows` in Credits), and that is all.
+use mathlib.Core.Path.{_≡_}
+use mathlib.Core.Bool.{Bool, true, false, cond, _||_, _&&_}
+use mathlib.Core.List.{List, [], _∷_, _++_}
+use Prim.Native.Nat.{ℕ, _+_, _-_, _<_}
+use lib.Dec.{eqb, leb, ltb}
+use lib.ListN.{length}
+use Rattle.lists.specs.Lists.{taken, leaving}
+use Rattle.credits.specs.Book.{Packet, acl, badHeader, setEventMask, Call, packet, opening, taking, completed, dropping, Event, report, disconnected, resetDone, eventMaskSet, Answer}
+use Rattle.credits.specs.Premises.{Profile}
+use Rattle.credits.specs.Credits.{Buffers, inUse}
+use Rattle.credits.proofs.Handles.{has, others}
+
+-- the buffers, and bit 4 of the event mask
+pub record State : Type 0 where
+  pub buffers : Buffers
+  pub unmasked : Bool
+
+-- no link, nothing waits, nothing is in flight
+abbrev pub empty : Buffers
+empty = record { handles = []; waiting = []; inFlight = 0 }
+
+abbrev pub initial : State
+initial = record { buffers = empty; unmasked = true }
+
+-- ---- the changes
+
+-- one packet more waits in a link
+abbrev pub queued : ℕ → Buffers → Buffers
+queued h s = record { handles = s .handles; waiting = s .waiting ++ (h ∷ []); inFlight = s .inFlight }
+
+-- a link's end: its queue goes with it, what is in flight stays
+abbrev pub ended : ℕ → Buffers → Buffers
+ended h s = record { handles = others h (s .handles); waiting = others h (s .waiting); inFlight = s .inFlight }
+
+-- a link with the handle ends first
+abbrev pub opened : ℕ → Buffers → Buffers
+opened h s =
+    record { handles = others h (s .handles) ++ (h ∷ []); waiting = others h (s .waiting); inFlight = s .inFlight }
+
+-- how many packets a take of up to `most` gives
+abbrev pub given : ℕ → ℕ → Buffers → ℕ
+given h most s = length (taken (λ x. eqb x h) most (s .waiting))
+
+abbrev pub afterTake : ℕ → ℕ → Buffers → Buffers
+afterTake h most s = record {
+  handles = s .handles;
+  waiting = leaving (λ x. eqb x h) most (s .waiting);
+  inFlight = s .inFlight + given h most s;
+}
+
+abbrev pub settled : ℕ → Buffers → Buffers
+settled n s = record { handles = s .handles; waiting = s .waiting; inFlight = s .inFlight - n }
+
+-- ---- the tests
+
+-- an ACL packet is queued
+unfoldable pub fits : Profile → ℕ → ℕ → Buffers → Bool
+fits k h n s = has h (s .handles) && (leb n (k .aclLen) && ltb (inUse s) (k .aclCount))
+
+-- question 6
+abbrev pub canOpen : ℕ → Buffers → Bool
+canOpen h s = has h (s .handles) || ltb (length (s .handles)) 16
+
+-- a call that may leave the buffers as they are and give no event that the book reads
+abbrev pub mayPass : Call → Bool
+mayPass (packet (acl h n)) = false
+mayPass (packet badHeader) = true
+mayPass (packet (setEventMask bit)) = true
+mayPass (packet Packet.other) = true
+mayPass (opening h) = false
+mayPass (taking h) = false
+mayPass (completed h n) = false
+mayPass (dropping n) = false
+mayPass Call.other = true
+
+-- an accepted call's answer: its events alone
+abbrev pub events : List Event → Answer
+events es = record { accepted = true; opened = false; events = es; taken = 0 }
+
+-- a state with other buffers
+abbrev pub at : Buffers → State → State
+at b s = record { buffers = b; unmasked = s .unmasked }
+
+-- ---- the rules: the call c at s gives t and a
+pub data Step (k : Profile) (c : Call) (s t : State) (a : Answer) : Type 0 where
+  refusal : a .accepted ≡ false → t ≡ s → Step k c s t a
+  -- nothing that concerns credits
+  pass : mayPass c ≡ true → t ≡ s → a ≡ events [] → Step k c s t a
+  -- Reset, answered with status 0
+  reset : c ≡ packet Packet.other → t ≡ initial → a ≡ events (resetDone ∷ []) → Step k c s t a
+  -- 0x0C01, answered with status 0
+  mask : (bit : Bool) → c ≡ packet (setEventMask bit) → t ≡ record { buffers = s .buffers; unmasked = bit }
+      → a ≡ events (eventMaskSet ∷ []) → Step k c s t a
+  -- an ACL packet, queued or dropped
+  receive : (h n : ℕ) → c ≡ packet (acl h n) → t ≡ at (cond (fits k h n (s .buffers)) (queued h (s .buffers)) (s .buffers)) s
+      → a ≡ events [] → Step k c s t a
+  -- open_connection, accept_connection; a handle is a 16-bit number
+  connect : (h : ℕ) → c ≡ opening h → h < 0x10000 → canOpen h (s .buffers) ≡ true → t ≡ at (opened h (s .buffers)) s
+      → a ≡ record { accepted = true; opened = true; events = []; taken = 0 } → Step k c s t a
+  -- take_transmit
+  take : (h most : ℕ) → c ≡ taking h → t ≡ at (afterTake h most (s .buffers)) s
+      → a ≡ record { accepted = true; opened = false; events = []; taken = given h most (s .buffers) } → Step k c s t a
+  -- completed
+  complete : (h n : ℕ) → c ≡ completed h n → t ≡ at (settled n (s .buffers)) s
+      → a ≡ events (cond (eqb n 0) [] (report h n ∷ [])) → Step k c s t a
+  -- drop_in_flight
+  discard : (n : ℕ) → c ≡ dropping n → t ≡ at (settled n (s .buffers)) s → a ≡ events [] → Step k c s t a
+  -- remote_disconnect, complete_disconnect of a link
+  disconnect : (h : ℕ) → c ≡ Call.other → has h (s .buffers .handles) ≡ true → t ≡ at (ended h (s .buffers)) s
+      → a ≡ events (cond (s .unmasked) (disconnected h ∷ []) []) → Step k c s t a
