@@ -9,8 +9,7 @@ use borrow.Author.Tests.{eqb-true, eqb-false, ne-eqb}
 use borrow.Table.Steps.{cases}
 use Rattle.lists.specs.Lists.{any, keep, leaving}
 use Rattle.lists.proofs.Same.{eqb-sym}
-use Rattle.credits.specs.Book.{Book, blank, unacknowledged, put, sumBelow}
-use Rattle.credits.specs.Credits.{inUse}
+use Rattle.credits.specs.Credits.{Book, blank, unacknowledged, put, sumBelow, inUse}
 use Rattle.credits.proofs.Sums.{put-own, sum-cong, sum-zero, sum-add, sum-put, sum-at}
 use Rattle.credits.proofs.Handles.{has, times, others, never, has-others-same, has-others, times-others-same, times-others, others-none, has-last, times-last-same, times-last, times-left-same, times-left, taken-times, length-sum}
 use Rattle.credits.proofs.Steps.{State, initial, queued, ended, opened, given, afterTake, settled, at}

@@ -11,11 +11,9 @@ use borrow.Table.Steps.{cases}
 use Rattle.lists.specs.Lists.{distinctBy, distinct}
 use Rattle.lists.proofs.Fewer.{keep-fewer}
 use Rattle.lists.proofs.Distinct.{distinct-fewer, keys-push}
-use Rattle.credits.specs.Book.{Call, Answer}
-use Rattle.credits.specs.Premises.{Profile}
-use Rattle.credits.specs.Credits.{Buffers, inUse, Within}
+use Rattle.credits.specs.Credits.{Call, Answer, Profile, Buffers, inUse, Within}
 use Rattle.credits.proofs.Handles.{has, others, has-others-same, others-at-most, others-fewer, taken-left}
-use Rattle.credits.proofs.Steps.{State, empty, queued, ended, opened, settled, afterTake, fits, canOpen, Step, refusal, pass, reset, mask, receive, connect, take, complete, discard, disconnect}
+use Rattle.credits.proofs.Steps.{State, empty, queued, ended, opened, settled, afterTake, capacity, fits, canOpen, Step, refusal, pass, reset, mask, receive, connect, take, complete, discard, disconnect}
 
 pub within-empty : (k : Profile) → Within k empty
 unfolding distinctBy
@@ -23,16 +21,16 @@ within-empty k = record { room = omega arith; differ = refl; few = omega arith }
 
 -- what `fits` says, and back
 pub fits-parts : (k : Profile) (h n : ℕ) (s : Buffers) → fits k h n s ≡ true
-    → (has h (s .handles) ≡ true) × (inUse s < k .aclCount)
+    → (has h (s .handles) ≡ true) × (inUse s < capacity k)
 unfolding fits
 fits-parts k h n s e =
-    let p = and-eq-true-iff (has h (s .handles)) (leb n (k .aclLen) && ltb (inUse s) (k .aclCount)) .0 e in
-    (p .0, ltb-true (inUse s) (k .aclCount) (and-eq-true-iff (leb n (k .aclLen)) (ltb (inUse s) (k .aclCount)) .0 (p .1) .1))
+    let p = and-eq-true-iff (has h (s .handles)) (leb n (k .aclLen) && ltb (inUse s) (capacity k)) .0 e in
+    (p .0, ltb-true (inUse s) (capacity k) (and-eq-true-iff (leb n (k .aclLen)) (ltb (inUse s) (capacity k)) .0 (p .1) .1))
 
-pub fits-all : (k : Profile) (h n : ℕ) (s : Buffers) → has h (s .handles) ≡ true → n ≤ k .aclLen → inUse s < k .aclCount
+pub fits-all : (k : Profile) (h n : ℕ) (s : Buffers) → has h (s .handles) ≡ true → n ≤ k .aclLen → inUse s < capacity k
     → fits k h n s ≡ true
 unfolding fits
-fits-all k h n s p q r = rw (p, le-leb n (k .aclLen) q, lt-ltb (inUse s) (k .aclCount) r)
+fits-all k h n s p q r = rw (p, le-leb n (k .aclLen) q, lt-ltb (inUse s) (capacity k) r)
 
 -- ---- the changes
 module _ (k : Profile) (s : Buffers) (i : Within k s) where

@@ -9,9 +9,7 @@ use lib.Dec.{eqb}
 use borrow.Author.Tests.{eqb-true, eqb-false}
 use borrow.Table.Steps.{cases}
 use Rattle.lists.specs.Lists.{any}
-use Rattle.credits.specs.Book.{Packet, acl, badHeader, setEventMask, Call, packet, opening, taking, completed, dropping, report, disconnected, eventMaskSet, Answer, Book, noted, heard, heardAll, book}
-use Rattle.credits.specs.Premises.{Profile, WellFormed, OpensUnused, Unmasked, DropsEnded, DropsNoOther, LinkKeeps}
-use Rattle.credits.specs.Credits.{Buffers, Kept}
+use Rattle.credits.specs.Credits.{Packet, acl, badHeader, setEventMask, Call, packet, opening, taking, completed, dropping, report, disconnected, eventMaskSet, Answer, Book, noted, heard, heardAll, book, Profile, WellFormed, OpensUnused, Unmasked, DropsEnded, DropsNoOther, LinkKeeps, Buffers, Kept}
 use Rattle.credits.proofs.Handles.{has, never, times-last-same}
 use Rattle.credits.proofs.Steps.{State, queued, ended, settled, fits, mayPass, events, at, Step, refusal, pass, reset, mask, receive, connect, take, complete, discard, disconnect}
 use Rattle.credits.proofs.Bounds.{fits-parts, fits-all}

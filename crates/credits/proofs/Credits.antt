@@ -4,9 +4,7 @@ use mathlib.Core.Path.{_≡_}
 use mathlib.Core.Bool.{Bool, true}
 use mathlib.Core.List.{List, [], _∷_}
 use native.Mathlib.Omega.{arith}
-use Rattle.credits.specs.Book.{Book, blank, book}
-use Rattle.credits.specs.Premises.{Profile, WellFormed, OpensUnused, Unmasked, LinkKeeps}
-use Rattle.credits.specs.Credits.{Reading, Made, Chained, lastOf, Within, callOf, answerOf, bookAfter, AllAlong, NothingDropped, CreditsHold}
+use Rattle.credits.specs.Credits.{Book, blank, book, Profile, WellFormed, OpensUnused, Unmasked, LinkKeeps, Reading, Made, Chained, lastOf, Within, callOf, answerOf, bookAfter, AllAlong, NothingDropped, CreditsHold}
 use Rattle.credits.proofs.Steps.{State, empty, Step}
 use Rattle.credits.proofs.Bounds.{within-empty, within-step}
 use Rattle.credits.proofs.Agrees.{Agrees, agrees-initial, counts}

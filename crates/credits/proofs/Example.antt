@@ -7,9 +7,7 @@ use Prim.Native.Nat.{ℕ, _≤_, _<_}
 use native.Mathlib.Omega.{arith}
 use lib.Dec.{lit<, lit≤}
 use Rattle.lists.specs.Lists.{any, keep, taken, leaving}
-use Rattle.credits.specs.Book.{Packet, acl, badHeader, setEventMask, Call, packet, opening, taking, completed, dropping, report, disconnected, resetDone, eventMaskSet, Answer, Book, blank, unacknowledged, sumBelow, put, noted, heard, heardAll, book}
-use Rattle.credits.specs.Premises.{Profile, WellFormed, OpensUnused, Unmasked, ReportsTaken, DropsEnded, DropsNoOther}
-use Rattle.credits.specs.Credits.{Reading, Made, Chained, lastOf, callOf, answerOf, bookAfter, AllAlong, Premises, NothingDropped, CreditsHold}
+use Rattle.credits.specs.Credits.{Packet, acl, badHeader, setEventMask, Call, packet, opening, taking, completed, dropping, report, disconnected, resetDone, eventMaskSet, Answer, Book, blank, unacknowledged, sumBelow, put, noted, heard, heardAll, book, Profile, WellFormed, OpensUnused, Unmasked, ReportsTaken, DropsEnded, DropsNoOther, Reading, Made, Chained, lastOf, callOf, answerOf, bookAfter, AllAlong, Premises, NothingDropped, CreditsHold}
 use Rattle.credits.proofs.Sums.{sum-zero, sum-put}
 use Rattle.credits.proofs.Handles.{never}
 use Rattle.credits.proofs.Steps.{State, initial, fits, events, Step, refusal, reset, mask, receive, connect, take, complete, discard, disconnect}

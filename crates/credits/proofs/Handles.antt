@@ -14,7 +14,7 @@ use Rattle.lists.proofs.Tests.{any-append}
 use Rattle.lists.proofs.Filter.{keep-append, keep-none, keep-both}
 use Rattle.lists.proofs.Taking.{taken-keep, keep-leaving, keep-leaving-other, taken-leaving}
 use Rattle.lists.proofs.Counting.{any-count}
-use Rattle.credits.specs.Book.{put, sumBelow}
+use Rattle.credits.specs.Credits.{put, sumBelow}
 use Rattle.credits.proofs.Sums.{sum-cong, sum-zero, sum-put}
 
 -- is the handle in the list?

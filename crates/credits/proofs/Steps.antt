@@ -7,9 +7,7 @@ use Prim.Native.Nat.{ℕ, _+_, _-_, _<_}
 use lib.Dec.{eqb, leb, ltb}
 use lib.ListN.{length}
 use Rattle.lists.specs.Lists.{taken, leaving}
-use Rattle.credits.specs.Book.{Packet, acl, badHeader, setEventMask, Call, packet, opening, taking, completed, dropping, Event, report, disconnected, resetDone, eventMaskSet, Answer}
-use Rattle.credits.specs.Premises.{Profile}
-use Rattle.credits.specs.Credits.{Buffers, inUse}
+use Rattle.credits.specs.Credits.{Packet, acl, badHeader, setEventMask, Call, packet, opening, taking, completed, dropping, Event, report, disconnected, resetDone, eventMaskSet, Answer, Profile, Buffers, inUse}
 use Rattle.credits.proofs.Handles.{has, others}
 
 -- the buffers, and bit 4 of the event mask
@@ -55,9 +53,13 @@ settled n s = record { handles = s .handles; waiting = s .waiting; inFlight = s 
 
 -- ---- the tests
 
+-- how many packets the controller holds
+abbrev pub capacity : Profile → ℕ
+capacity k = k .aclCount
+
 -- an ACL packet is queued
 unfoldable pub fits : Profile → ℕ → ℕ → Buffers → Bool
-fits k h n s = has h (s .handles) && (leb n (k .aclLen) && ltb (inUse s) (k .aclCount))
+fits k h n s = has h (s .handles) && (leb n (k .aclLen) && ltb (inUse s) (capacity k))
 
 -- question 6
 abbrev pub canOpen : ℕ → Buffers → Bool

@@ -1,15 +1,166 @@
--- Demand 3 as one claim about a whole list of calls, over any controller of which one says what its calls give. For readers who
--- check the claim about credits. Comments in quotation marks are sentences of document 01, "Credits", or of demand 3 (document
--- 00). `credits` in proofs/Credits.antt proves the claim from what one call does.
+-- Demand 3 as one claim about a whole list of calls, over any controller of which one says what its calls give: the host's book,
+-- what host and link keep, and the claim, `CreditsHold`. For readers who check the claim about credits. Comments in quotation marks
+-- are sentences of document 01, "Credits", or of demand 3 (document 00), that the lines below them state. `credits` in
+-- proofs/Credits.antt proves the claim from what one call does.
 use mathlib.Core.Path.{_≡_}
-use mathlib.Core.Bool.{true}
+use mathlib.Core.Bool.{Bool, true, false, cond}
 use mathlib.Core.List.{List, [], _∷_}
-use Prim.Native.Nat.{ℕ, _+_, _≤_}
+use Prim.Native.Nat.{ℕ, zero, suc, _+_, _-_, _≤_, _<_}
 use lib.Dec.{eqb}
 use lib.ListN.{length}
-use Rattle.lists.specs.Lists.{keep, distinct}
-use Rattle.credits.specs.Book.{Packet, acl, badHeader, setEventMask, Call, packet, opening, taking, completed, dropping, Answer, Book, blank, unacknowledged, book}
-use Rattle.credits.specs.Premises.{Profile, WellFormed, OpensUnused, Unmasked, LinkKeeps}
+use Rattle.lists.specs.Lists.{any, keep, distinct}
+
+-- ======== the host's book
+
+-- "The host's book is fed each call's arguments, whether it was accepted, whether it opened a link by demand 2's definitions,
+-- its events and how many packets it took, never the state."
+
+-- A packet of the host, with what the book and the premises read of it.
+pub data Packet : Type 0 where
+  acl : ℕ → ℕ → Packet  -- first octet 0x02, and the header parses: handle and length
+  badHeader : Packet  -- first octet 0x02, and the header does not parse
+  setEventMask : Bool → Packet  -- command 0x0C01, its row modelled: bit 4 of p[0]
+  other : Packet
+
+-- A call, with those of its arguments that the book and the premises read.
+pub data Call : Type 0 where
+  packet : Packet → Call  -- on_packet
+  opening : ℕ → Call  -- open_connection, accept_connection: handle
+  taking : ℕ → Call  -- take_transmit: handle
+  completed : ℕ → ℕ → Call  -- completed: handle and count
+  dropping : ℕ → Call  -- drop_in_flight: count
+  other : Call  -- the other notices
+
+-- An event that the book or the premises read.
+pub data Event : Type 0 where
+  report : ℕ → ℕ → Event  -- Number Of Completed Packets: handle and count
+  disconnected : ℕ → Event  -- Disconnection Complete: handle
+  resetDone : Event  -- Command Complete of Reset (0x0C03) with status 0
+  eventMaskSet : Event  -- Command Complete of 0x0C01 with status 0
+
+-- What a call gave; of its events those above, in order.
+pub record Answer : Type 0 where
+  pub accepted : Bool
+  pub opened : Bool
+  pub events : List Event
+  pub taken : ℕ
+
+-- "For each handle it has an open mark, `owed` and `out`, and beside them one number `ended`;"
+pub record Book : Type 0 where
+  pub isOpen : ℕ → Bool
+  pub owed : ℕ → ℕ
+  pub out : ℕ → ℕ
+  pub ended : ℕ
+
+-- "at first all are closed or 0."
+abbrev pub blank : Book
+blank = record { isOpen = λ h. false; owed = λ h. 0; out = λ h. 0; ended = 0 }
+
+-- the sum of f over the numbers below n
+unfoldable pub sumBelow : ℕ → (ℕ → ℕ) → ℕ
+sumBelow zero f = 0
+sumBelow (suc n) f = sumBelow n f + f n
+
+-- "The host's unacknowledged count is the sum of `owed`." A handle is a 16-bit number.
+abbrev pub unacknowledged : Book → ℕ
+unacknowledged b = sumBelow 0x10000 (b .owed)
+
+-- f, but v at h
+abbrev pub put {ℓ} : {A : Type ℓ} → (ℕ → A) → ℕ → A → ℕ → A
+put f h v k = cond (eqb k h) v (f k)
+
+-- "An accepted one: An ACL packet whose header parses adds 1 to its handle's `owed`. A notice that opened a link opens its
+-- handle. A take adds the packets it gave to its handle's `out`. `completed` lowers its handle's `out` by its count, a drop
+-- `ended`, neither below 0." (`-` stops at 0.)
+unfoldable pub noted : Book → Call → Answer → Book
+noted b (packet (acl h n)) a =
+    record { isOpen = b .isOpen; owed = put (b .owed) h (b .owed h + 1); out = b .out; ended = b .ended }
+noted b (packet badHeader) a = b
+noted b (packet (setEventMask bit)) a = b
+noted b (packet other) a = b
+noted b (opening h) a =
+    record { isOpen = cond (a .opened) (put (b .isOpen) h true) (b .isOpen); owed = b .owed; out = b .out; ended = b .ended }
+noted b (taking h) a =
+    record { isOpen = b .isOpen; owed = b .owed; out = put (b .out) h (b .out h + a .taken); ended = b .ended }
+noted b (completed h n) a =
+    record { isOpen = b .isOpen; owed = b .owed; out = put (b .out) h (b .out h - n); ended = b .ended }
+noted b (dropping n) a = record { isOpen = b .isOpen; owed = b .owed; out = b .out; ended = b .ended - n }
+noted b other a = b
+
+-- "a completed report lowers its handle's `owed` by its count, not below 0; Disconnection Complete closes its handle, zeroes
+-- its `owed` and moves its `out` to `ended`; Reset's status 0 closes and zeroes all."
+unfoldable pub heard : Book → Event → Book
+heard b (report h n) =
+    record { isOpen = b .isOpen; owed = put (b .owed) h (b .owed h - n); out = b .out; ended = b .ended }
+heard b (disconnected h) = record {
+  isOpen = put (b .isOpen) h false;
+  owed = put (b .owed) h 0;
+  out = put (b .out) h 0;
+  ended = b .ended + b .out h;
+}
+heard b resetDone = blank
+heard b eventMaskSet = b
+
+-- "Then its events in order:"
+unfoldable pub heardAll : Book → List Event → Book
+heardAll b [] = b
+heardAll b (e ∷ es) = heardAll (heard b e) es
+
+-- "A refused call changes nothing." The book after a call:
+unfoldable pub book : Book → Call → Answer → Book
+book b c a = cond (a .accepted) (heardAll (noted b c a) (a .events)) b
+
+-- ======== what the host and the radio link keep, each at one accepted call, with the book before that call
+
+-- What is read of the profile.
+pub record Profile : Type 0 where
+  pub aclLen : ℕ
+  pub aclCount : ℕ
+
+-- "The host keeps the rule (Core section 4) if each accepted packet with first octet 0x02 is well-formed, that is, its header
+-- parses, its handle is open, its length at most acl_len and the count before it below acl_count."
+abbrev pub WellFormed : Profile → Book → Call → Type 0
+WellFormed k b (packet (acl h n)) = (b .isOpen h ≡ true) × (n ≤ k .aclLen) × (unacknowledged b < k .aclCount)
+WellFormed k b (packet badHeader) = ⊥
+WellFormed k b (packet (setEventMask bit)) = Unit {0}
+WellFormed k b (packet Packet.other) = Unit {0}
+WellFormed k b (opening h) = Unit {0}
+WellFormed k b (taking h) = Unit {0}
+WellFormed k b (completed h n) = Unit {0}
+WellFormed k b (dropping n) = Unit {0}
+WellFormed k b Call.other = Unit {0}
+
+-- "Unused means closed." A call that opened a link opened it on an unused handle.
+abbrev pub OpensUnused : Book → Call → Answer → Type 0
+OpensUnused b c a = (h : ℕ) → c ≡ opening h → a .opened ≡ true → b .isOpen h ≡ false
+
+-- Command Complete of 0x0C01 with status 0
+abbrev pub setsEventMask : Event → Bool
+setsEventMask (report h n) = false
+setsEventMask (disconnected h) = false
+setsEventMask resetDone = false
+setsEventMask eventMaskSet = true
+
+-- "Unmasked means that no modelled 0x0C01 answered with status 0 has bit 4 of p[0] clear."
+abbrev pub Unmasked : Call → Answer → Type 0
+Unmasked c a = (bit : Bool) → c ≡ packet (setEventMask bit) → any setsEventMask (a .events) ≡ true → bit ≡ true
+
+-- "The link keeps its part if each accepted `completed` with count above 0 names an open handle and at most its `out`,"
+abbrev pub ReportsTaken : Book → Call → Type 0
+ReportsTaken b c = (h n : ℕ) → c ≡ completed h n → 0 < n → (b .isOpen h ≡ true) × (n ≤ b .out h)
+
+-- "and if, while `ended` is above 0, the next accepted call is a drop of at most `ended`,"
+abbrev pub DropsEnded : Book → Call → Type 0
+DropsEnded b c = 0 < b .ended → (n : ℕ) × (c ≡ dropping n) × (n ≤ b .ended)
+
+-- "and other drops are of 0."
+abbrev pub DropsNoOther : Book → Call → Type 0
+DropsNoOther b c = (n : ℕ) → c ≡ dropping n → b .ended ≡ 0 → n ≡ 0
+
+abbrev pub LinkKeeps : Book → Call → Type 0
+LinkKeeps b c = ReportsTaken b c × DropsEnded b c × DropsNoOther b c
+
+-- ======== the claim
 
 -- What is read of a state: the handles of the links, the handle of each packet that waits in a link, and how many packets are in
 -- flight.

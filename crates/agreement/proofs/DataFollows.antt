@@ -1,0 +1,58 @@
+-- A data packet follows its rule: one whose header parses is queued or dropped, another changes nothing that the rules read. For
+-- the proof of demand 3.
+use Prim.Native.Nat.{ℕ}
+use mathlib.Core.Path.{_≡_, refl, ap}
+use mathlib.Core.Bool.{cond}
+use mathlib.Core.List.{List, []}
+use borrow.Table.Steps.{cases}
+use Rattle.hci.specs.Read.{parseAcl}
+use Rattle.hci.specs.declared.read.AclRead.{AclRead}
+use Rattle.hci.specs.declared.read.AclRead.the-variants as acl
+use Rattle.links.specs.Links.{enqueued}
+use Rattle.state.specs.State.{Model, countPacket}
+use Rattle.commands.specs.Parts.{withLinks, withCounters}
+use Rattle.calls.specs.Packets.{Profile, reply, accepts, headerOf, stored, discarded, dataPacket}
+use Rattle.credits.specs.Credits.{Buffers}
+use Rattle.credits.proofs.Steps as steps
+use Rattle.credits.proofs.Steps.{fits}
+use Rattle.agreement.specs.Agreement.{dataFed, limitsOf, buffersOf}
+use Rattle.agreement.proofs.Splitting.{fed-nothing}
+use Rattle.agreement.proofs.ByDefinition.{seen}
+use Rattle.agreement.proofs.Links.{has-handle, in-use, enqueued-follows}
+use Rattle.agreement.proofs.Replying.{ReplyFollows}
+
+-- the packet is queued by one test
+accepts-fits : (g : Profile) (h n : ℕ) (m : Model)
+    → fits (limitsOf g) h n (buffersOf m) ≡ accepts (g .controller) (acl.Whole (record { handle = h; len = n })) m
+unfolding fits
+accepts-fits g h n m = rw (has-handle h (m .links), in-use (m .links))
+
+queued-follows : (h : ℕ) (octets : List ℕ) (m : Model)
+    → seen (withCounters (countPacket (m .counters)) (withLinks (enqueued h octets (m .links)) m))
+    ≡ steps.at (steps.queued h (buffersOf m)) (seen m)
+queued-follows h octets m = ap (λ (b : Buffers). steps.at b (seen m)) (enqueued-follows h octets (m .links))
+
+-- what is left of the state, by how the header was read
+left : Profile → AclRead → List ℕ → Model → Model
+left g r octets m =
+    cond (accepts (g .controller) r m)
+    (withCounters (countPacket (m .counters)) (withLinks (enqueued (headerOf r .handle) octets (m .links)) m))
+    (discarded m)
+
+read-follows : (g : Profile) (r : AclRead) (octets : List ℕ) (m : Model) → ReplyFollows g (dataFed r) m (reply [] (left g r octets m))
+unfolding left
+read-follows g (acl.Whole header) octets m =
+    let h = header .handle in
+    let n = header .len in
+    let e = accepts-fits g h n m in
+    steps.Step.receive h n refl
+    (rw e (cases (accepts (g .controller) (acl.Whole header) m) (λ t. rw t (queued-follows h octets m)) (λ t. rw t)))
+    (rw fed-nothing)
+read-follows g acl.ShortHeader octets m = steps.Step.pass refl refl (rw fed-nothing)
+read-follows g acl.NotAcl octets m = steps.Step.pass refl refl (rw fed-nothing)
+read-follows g acl.ShortData octets m = steps.Step.pass refl refl (rw fed-nothing)
+
+pub data-follows : (g : Profile) (p : List ℕ) (m : Model)
+    → ReplyFollows g (dataFed (parseAcl p)) m (reply [] (dataPacket (g .controller) p m))
+unfolding left dataPacket
+data-follows g p m = read-follows g (parseAcl p) (stored p) m

@@ -1,0 +1,4 @@
+-- What the controller's calls give, to be read in this order: packets, the calls with their questions, the contract of a call.
+pub mod Packets
+pub mod Calls
+pub mod Gives

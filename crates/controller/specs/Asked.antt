@@ -1,0 +1,43 @@
+-- The questions that several calls begin with, as numbers: 0, or the number of the first "no"; and what the writer of a notice's
+-- event counts on. For the inner functions of this crate; the contracts of the exported calls are `Rattle.calls.specs.Gives`.
+use mathlib.Core.Path.{_≡_}
+use Prim.Native.Nat.{ℕ, _*_, _≤_}
+use mathlib.Core.List.{List, [], _∷_}
+use mathlib.Core.Bool.{Bool}
+use lib.Dec.{leb}
+use lib.ListN.{length}
+use Rattle.profile.specs.declared.ControllerRow.{ControllerRow}
+use Rattle.profile.specs.Profile.{withinLimits, rowsFit}
+use Rattle.answers.specs.declared.Answer.{Answer}
+use Rattle.answers.specs.Answers.{AnswerHolds, answerOf}
+use Rattle.state.specs.Holding.{stateHolds, placeSize}
+use Rattle.state.specs.declared.Controller.{Controller}
+use Rattle.calls.specs.Calls.{Question, firstNo}
+
+abbrev pub question : ℕ → Bool → Question
+question n answer = record { number = n; yes = answer }
+
+-- questions 1 and 3
+abbrev pub aboutState : ControllerRow → Controller → ℕ
+aboutState k s = firstNo (question 1 (withinLimits k) ∷ question 3 (stateHolds s k) ∷ [])
+
+-- 1, 3 and 5, with an event buffer of so many octets
+abbrev pub aboutEvents : ControllerRow → Controller → ℕ → ℕ
+aboutEvents k s room = firstNo (question 1 (withinLimits k) ∷ question 3 (stateHolds s k) ∷ question 5 (leb 71 room) ∷ [])
+
+-- 1, 3 and 4, with a pool of so many octets
+abbrev pub aboutPool : ControllerRow → Controller → ℕ → ℕ
+aboutPool k s pool =
+    firstNo (question 1 (withinLimits k) ∷ question 3 (stateHolds s k) ∷ question 4 (leb (k .«acl_count» * placeSize k) pool) ∷ [])
+
+-- 1 to 5
+abbrev pub aboutPacket : ControllerRow → List ℕ → List ℕ → List ℕ → Controller → ℕ → ℕ → ℕ
+aboutPacket k opcodes answers bits s pool room =
+    firstNo (question 1 (withinLimits k) ∷ question 2 (rowsFit opcodes answers bits) ∷ question 3 (stateHolds s k)
+    ∷ question 4 (leb (k .«acl_count» * placeSize k) pool) ∷ question 5 (leb 71 room) ∷ [])
+
+-- a notice's answer: no acknowledgement, an event of at most 37 octets behind it, and a buffer that question 5 was asked of
+pub record CanTell (a : Answer) (out : List ℕ) : Type 0 where
+  pub holds : AnswerHolds a
+  pub alone : answerOf a .octets ≡ []
+  pub room : 71 ≤ length out

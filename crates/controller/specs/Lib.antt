@@ -1,0 +1,2 @@
+-- What the inner functions of `controller` give; the exported calls' contracts are in `calls`.
+pub mod Asked

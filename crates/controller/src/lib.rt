@@ -1,0 +1,55 @@
+// The calls that a user of the controller makes. Each takes any state, profile, pool and buffer and comes back with its answer or
+// with the number of the first question of document 01 that has the answer "no", and then nothing has changed. State goes in by
+// value and comes back; events and taken packets are octets at the front of a buffer that the caller lends. Contracts cite
+// `calls/specs/Gives.antt`.
+mod changing;
+mod counting;
+mod ending;
+mod opening;
+mod packets;
+mod queries;
+mod questions;
+mod taking;
+mod telling;
+
+pub use changing::peer_update;
+pub use changing::request_ltk;
+pub use counting::completed;
+pub use counting::drop_in_flight;
+pub use ending::complete_disconnect;
+pub use ending::remote_disconnect;
+pub use opening::accept_connection;
+pub use opening::advertising_timeout;
+pub use opening::open_connection;
+pub use packets::on_packet;
+pub use queries::acl_buffers_in_use;
+pub use queries::default_state;
+pub use queries::free_handle;
+pub use queries::has_connection;
+pub use queries::row_bitmap;
+pub use queries::terminating;
+use state::Controller;
+pub use taking::take_transmit;
+
+// What a call gives that has no buffer: 0 or the number of a refusal, and the state after it.
+pub struct Changed {
+    pub number: u8,
+    pub state: Controller,
+}
+
+// What a call gives that tells the host: 0 or the number of a refusal, the state after it, and how many octets of events stand at
+// the front of the buffer.
+pub struct Told {
+    pub number: u8,
+    pub state: Controller,
+    pub written: usize,
+}
+
+// What a take gives: 0 or the number of a refusal, the state after it, how many packets were taken, and how many octets they have
+// together at the front of the buffer.
+pub struct Took {
+    pub number: u8,
+    pub state: Controller,
+    pub count: usize,
+    pub written: usize,
+}

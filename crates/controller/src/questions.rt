@@ -1,0 +1,88 @@
+// The questions that several calls begin with. Each function gives 0, or the number of the first question with a "no".
+ghost use mathlib.Core.Path.{_≡_};
+ghost use Prim.Native.Nat.{_*_};
+ghost use lib.Dec.{leb};
+ghost use Rattle.state.specs.Holding.{placeSize};
+ghost use Rattle.controller.specs.Asked.{aboutState, aboutEvents, aboutPool, aboutPacket};
+use profile::ControllerRow;
+use state::Controller;
+
+// 1: is the profile within its limits? 3: does the state hold together?
+pub fn about_state(profile: ControllerRow, s: Controller) -> u8
+    ensures { λ r. ⌜ r ≡ aboutState profile s ⌝ }
+{
+    if !profile::within_limits(profile) {
+        return 1;
+    }
+    if !state::holds(s, profile) {
+        return 3;
+    }
+    0
+}
+
+// 1, 3, and 5: has the event buffer 71 octets or more?
+pub fn about_events(profile: ControllerRow, s: Controller, room: usize) -> u8
+    ensures { λ r. ⌜ r ≡ aboutEvents profile s room ⌝ }
+{
+    let number = about_state(profile, s);
+    if number != 0 {
+        return number;
+    }
+    if room < 71 {
+        return 5;
+    }
+    0
+}
+
+// 4: has the pool acl_count times acl_len + 5 octets or more?
+fn pool_fits(profile: ControllerRow, pool: usize) -> bool
+    ensures { λ r. ⌜ r ≡ leb (profile .«acl_count» * placeSize profile) pool ⌝ }
+{
+    let size = (profile.acl_len as usize) + 5;
+    let least = (profile.acl_count as usize) * size;
+    least <= pool
+}
+
+// 1, 3 and 4.
+pub fn about_pool(profile: ControllerRow, s: Controller, pool: usize) -> u8
+    ensures { λ r. ⌜ r ≡ aboutPool profile s pool ⌝ }
+{
+    let number = about_state(profile, s);
+    if number != 0 {
+        return number;
+    }
+    if !pool_fits(profile, pool) {
+        return 4;
+    }
+    0
+}
+
+// 1, 2: are the rows' slices equally long, at most 256, answers at most 2?, 3, 4 and 5.
+pub fn about_packet(
+    profile: ControllerRow,
+    opcodes: &[u16],
+    answers: &[u8],
+    bits: &[u16],
+    s: Controller,
+    pool: usize,
+    room: usize,
+) -> u8
+    ensures { λ r. ⌜ r ≡ aboutPacket profile (now (opcodes .entry)) (now (answers .entry)) (now (bits .entry)) s pool room ⌝ }
+{
+    if !profile::within_limits(profile) {
+        return 1;
+    }
+    if !profile::rows_fit(opcodes, answers, bits) {
+        return 2;
+    }
+    if !state::holds(s, profile) {
+        return 3;
+    }
+    if !pool_fits(profile, pool) {
+        return 4;
+    }
+    if room < 71 {
+        return 5;
+    }
+    0
+}

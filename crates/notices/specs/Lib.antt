@@ -1,0 +1,3 @@
+-- The definitions of the link's notices.
+pub mod Notices
+pub mod Tells

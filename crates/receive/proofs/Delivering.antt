@@ -1,0 +1,89 @@
+-- Which data packets are accepted, and what a packet gives that is queued or dropped, from what `enqueue` and `dropped` give. For
+-- `acl`.
+use mathlib.Core.Path.{_≡_, refl, sym, ap, _∙_}
+use Prim.Native.Nat.{ℕ, _+_, _≤_, _<_}
+use mathlib.Core.List.{List}
+use mathlib.Core.Bool.{Bool, true, false, cond}
+use lib.ListN.{length, length-map, take}
+use lib.Seq.{length-take-le}
+use native.Mathlib.Omega.{arith}
+use borrow.Author.Tests.{lt-leb, le-leb, lt-ltb, le-ltb}
+use Rattle.hci.specs.Read.{parseAcl}
+use Rattle.hci.specs.declared.read.Acl.{Acl}
+use Rattle.hci.specs.declared.read.AclRead.{AclRead}
+use Rattle.hci.specs.declared.read.AclRead.the-variants as acl
+use Rattle.profile.specs.declared.ControllerRow.{ControllerRow}
+use Rattle.links.specs.declared.Links.{Links}
+use Rattle.links.specs.Links as links
+use Rattle.transmit.specs.Transmit.{Queued}
+use Rattle.state.specs.State.{Model, view, countPacket, countDropped}
+use Rattle.state.specs.Holding.{StateHolds, placeSize}
+use Rattle.state.specs.declared.Counters.{Counters}
+use Rattle.state.specs.declared.Controller.{Controller}
+use Rattle.commands.specs.Parts.{withLinks, withCounters}
+use Rattle.commands.specs.Put.{putLinks, putCounters}
+use Rattle.commands.proofs.Giving.{holds-links, holds-counters}
+use Rattle.calls.specs.Packets.{accepts, headerOf, stored, queued, discarded, dataPacket}
+use Rattle.calls.specs.Calls.{held}
+use Rattle.calls.specs.Gives.{PoolAfter, Stored}
+use Rattle.receive.specs.Receiving.{Delivers}
+
+-- the buffers in use, in the code's numbers
+pub in-use : (s : Links) → length (s .waiting) ≡ 32 → s .«waiting_count» ≤ 32
+    → (size : ℕ) (pool : List ℕ) → links.inUse (links.view s size pool) ≡ s .«waiting_count» + s .«in_flight»
+in-use s wide few size pool = simp (length-map, length-take-le (s .«waiting_count») (s .waiting) (omega (arith, wide, few)))
+
+-- the tests of a packet with this header
+module _ (k : ControllerRow) {header : AclRead} {it : Acl} (m : Model) (read : header ≡ acl.Whole it) where
+  pub no-link : links.has (it .handle) (m .links .connections) ≡ false → accepts k header m ≡ false
+  no-link e = rw (read, e)
+
+  module _ (linked : links.has (it .handle) (m .links .connections) ≡ true) where
+    pub too-long : k .«acl_len» < it .len → accepts k header m ≡ false
+    too-long h = rw (read, linked, lt-leb (it .len) (k .«acl_len») h)
+
+    module _ (fits : it .len ≤ k .«acl_len») where
+      pub no-buffer : k .«acl_count» ≤ links.inUse (m .links) → accepts k header m ≡ false
+      no-buffer h = rw (read, linked, le-leb (it .len) (k .«acl_len») fits, le-ltb (links.inUse (m .links)) (k .«acl_count») h)
+
+      pub accepted : links.inUse (m .links) < k .«acl_count» → accepts k header m ≡ true
+      accepted h = rw (read, linked, le-leb (it .len) (k .«acl_len») fits, lt-ltb (links.inUse (m .links)) (k .«acl_count») h)
+
+module _ {k : ControllerRow} {p : List ℕ} {s : Controller} {pool : List ℕ} (together : StateHolds s k) where
+  -- a packet that is not accepted is counted
+  pub delivers-dropped : {t : Controller} → accepts k (parseAcl p) (view s (placeSize k) pool) ≡ false
+      → t ≡ putCounters (countDropped (s .counters)) s → Delivers k p (held s pool) (held t pool)
+  unfolding dataPacket
+  delivers-dropped {t} refused e =
+      let m = view s (placeSize k) pool in
+      let same : dataPacket k p m ≡ discarded m = ap (λ (b : Bool). cond b (queued p m) (discarded m)) refused in
+      let left : PoolAfter (accepts k (parseAcl p) m) k (stored p) (held s pool) (held t pool) = rw refused refl in
+      record {
+        viewed = ap (λ (x : Controller). view x (placeSize k) pool) e ∙ sym same;
+        together = rw e (holds-counters together (countDropped (s .counters)));
+        pool = left;
+      }
+
+  -- one that is accepted waits last
+  pub delivers-queued : {it : Acl} {r : Links} {after : List ℕ} {x : Counters} → parseAcl p ≡ acl.Whole it
+      → accepts k (parseAcl p) (view s (placeSize k) pool) ≡ true
+      → Queued (s .links) (placeSize k) (k .«acl_count») (it .handle) (take (it .len + 5) p) pool r after
+      → x ≡ countPacket (s .counters) → Delivers k p (held s pool) (held (putCounters x (putLinks r s)) after)
+  unfolding dataPacket
+  delivers-queued {it} {r} {after} {x} read taken q e =
+      let m = view s (placeSize k) pool in
+      let n : it .len + 5 ≡ 5 + it .len = omega arith in
+      let octets : take (it .len + 5) p ≡ stored p = rw (read, n) in
+      let new = links.enqueued (headerOf (parseAcl p) .handle) (stored p) (m .links) in
+      let waits : links.view r (placeSize k) after ≡ new = q .viewed ∙ rw (read, n) in
+      let same : dataPacket k p m ≡ queued p m = ap (λ (b : Bool). cond b (queued p m) (discarded m)) taken in
+      let place : Stored k (stored p) (held s pool) (held (putCounters x (putLinks r s)) after) =
+      record { place = q .place; within = q .within; free = q .free; stored = rw octets at (q .stored) } in
+      record {
+        viewed =
+            ap (λ (y : links.Model). withCounters x (withLinks y m)) waits
+            ∙ ap (λ (y : Counters). withCounters y (withLinks new m)) e
+            ∙ sym same;
+        together = holds-counters (holds-links together (q .held)) x;
+        pool = rw taken place;
+      }
