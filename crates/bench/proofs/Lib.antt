@@ -1,0 +1,2 @@
+-- The lemmas of the program `bench`.
+pub mod Stepping

@@ -1,0 +1,30 @@
+-- `trials::asking::took` meets its contract.
+use mathlib.Core.Path.{refl, sym}
+use lib.Seq.{length-take-le}
+use Rattle.trials.proofs.Answering.{put-front-of, room-of}
+use borrow.Author.Needs.{needs}
+use Rattle.trials.proofs.asking.took.Statement.{statement}
+use Rattle.trials.proofs.asking.took.Tie as tie
+
+cast-taken : tie.Need-cast-taken
+cast-taken c = search needs
+
+slice-aggregate-put-answer : tie.Need-slice-aggregate-put-answer
+slice-aggregate-put-answer c = sym (length-take-le _ _ (c .before .before .before .before .pre .0 .within))
+
+put-answer-requires : tie.Need-put-answer-requires
+put-answer-requires c κs = room-of (c .before .before .before .before .before .pre .0)
+
+same-length : tie.Need-same-length
+same-length c = search needs
+
+returns : tie.Need-returns
+returns c =
+    let c3 = c .before .before .before in
+    let c9 = c3 .before .before .before .before .before .before in
+    (refl, put-front-of _ _ (c9 .pre .0 .within) (c3 .put-answer .ensures))
+
+pub took-spec : {M : Type 1} → statement M
+took-spec =
+    tie.close
+    (tie.spec cast-taken slice-aggregate-put-answer put-answer-requires same-length returns)

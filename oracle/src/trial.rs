@@ -1,0 +1,103 @@
+//! A run of calls as octets: what both sides are handed. The forms are those of `crates/trials/specs/Setup.antt` and
+//! `Trials.antt`.
+use crate::octets::{put_word, word_at};
+
+/// The kinds of records.
+pub mod kind {
+    pub const PACKET: u8 = 0;
+    pub const TAKE: u8 = 1;
+    pub const OPEN: u8 = 2;
+    pub const COMPLETED: u8 = 3;
+    pub const DROP: u8 = 4;
+    pub const ACCEPT: u8 = 5;
+    pub const UPDATE: u8 = 6;
+    pub const KEY_REQUEST: u8 = 7;
+    pub const COMPLETE_DISCONNECT: u8 = 8;
+    pub const REMOTE_DISCONNECT: u8 = 9;
+    pub const TIMEOUT: u8 = 10;
+    pub const STATE: u8 = 11;
+}
+
+/// The calls by their names in the source, and how many octets follow in a record; a packet has any number.
+pub const KINDS: [(&str, usize); 12] = [
+    ("on_packet", 0),
+    ("take_transmit", 4),
+    ("open_connection", 8),
+    ("completed", 4),
+    ("drop_in_flight", 2),
+    ("accept_connection", 16),
+    ("peer_update", 8),
+    ("request_ltk", 12),
+    ("complete_disconnect", 2),
+    ("remote_disconnect", 3),
+    ("advertising_timeout", 0),
+    ("whole state", 0),
+];
+
+/// A run ends where less than this is left for its answers: the most that one record can give.
+pub const ROOM: usize = 40_960;
+
+#[derive(Clone, Debug, PartialEq, Eq)]
+pub struct Trial {
+    pub setup: Vec<u8>,
+    /// Octets of pool, of event buffer, of buffer for taken packets, and of room for the answers.
+    pub pool: usize,
+    pub events: usize,
+    pub packets: usize,
+    pub room: usize,
+    /// Records end to end.
+    pub input: Vec<u8>,
+}
+
+/// Appends a record.
+pub fn put_record(input: &mut Vec<u8>, kind: u8, octets: &[u8]) {
+    input.push(kind);
+    put_word(input, octets.len() as u16);
+    input.extend_from_slice(octets);
+}
+
+/// The octets of the record at the front, 0 where it isn't whole.
+pub fn record_length(input: &[u8]) -> usize {
+    if input.len() < 3 {
+        return 0;
+    }
+    let length = 3 + usize::from(word_at(input, 1));
+    if length <= input.len() {
+        length
+    } else {
+        0
+    }
+}
+
+/// The records of some octets; what is left at the end stands as a last one.
+pub fn records(mut input: &[u8]) -> Vec<Vec<u8>> {
+    let mut list = Vec::new();
+    while !input.is_empty() {
+        let (record, rest) = match record_length(input) {
+            0 => (input, &input[input.len()..]),
+            n => input.split_at(n),
+        };
+        list.push(record.to_vec());
+        input = rest;
+    }
+    list
+}
+
+/// The answers of a run, one for each of its records as long as there are whole ones; what is left stands as a last one.
+pub fn answers<'a>(records: &[Vec<u8>], mut octets: &'a [u8]) -> Vec<&'a [u8]> {
+    let mut list = Vec::new();
+    for record in records {
+        let header = if record[0] == kind::STATE { 2 } else { 4 };
+        if octets.len() < header {
+            break;
+        }
+        let length = header + usize::from(word_at(octets, header - 2));
+        let (answer, rest) = octets.split_at(length.min(octets.len()));
+        list.push(answer);
+        octets = rest;
+    }
+    if !octets.is_empty() {
+        list.push(octets);
+    }
+    list
+}
