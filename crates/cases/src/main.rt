@@ -28,29 +28,7 @@ fn line(text: &[u8], number: u8) {
 
 // The bench's profile.
 fn bench() -> ControllerRow {
-    ControllerRow {
-        hci_version: 0,
-        hci_subversion: 0,
-        lmp_version: 0,
-        company: 0,
-        lmp_subversion: 0,
-        supported_commands: [0; 64],
-        lmp_features: [0; 8],
-        le_features: 0x100,
-        supported_states: [0; 8],
-        acl_len: 27,
-        acl_count: 2,
-        accept_list_size: 2,
-        resolving_list_size: 2,
-        adv_tx_power: 0,
-        tx_power_min: 0,
-        tx_power_max: 9,
-        max_tx_octets: 251,
-        max_tx_time: 2120,
-        max_adv_data_len: 0,
-        adv_sets: 0,
-        num_command_packets: 5,
-    }
+    records::bench_profile()
 }
 
 fn limits_and_rows() {
