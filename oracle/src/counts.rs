@@ -13,7 +13,7 @@ struct Calls {
 }
 
 pub struct Counts {
-    kinds: [Calls; 12],
+    kinds: [Calls; KINDS.len()],
     refusals: [u64; 11],
     /// By opcode: all commands, and those answered with status 0.
     commands: Vec<[u64; 2]>,
@@ -51,8 +51,9 @@ impl Counts {
         }
     }
 
-    pub fn state(&mut self) {
-        self.kinds[usize::from(kind::STATE)].calls += 1;
+    /// A state shown, or queries made.
+    pub fn asked(&mut self, kind: u8) {
+        self.kinds[usize::from(kind)].calls += 1;
     }
 
     pub fn line(&mut self, kind: u8, p: &[u8], number: u8, octets: &[u8]) {
@@ -95,7 +96,7 @@ impl Counts {
         }
     }
 
-    /// Calls made, states not counted.
+    /// Calls made, states and queries not counted.
     pub fn calls(&self) -> u64 {
         self.kinds[..usize::from(kind::STATE)].iter().map(|k| k.calls).sum()
     }

@@ -58,7 +58,7 @@ fn opcodes() -> impl Iterator<Item = Vec<Vec<u8>>> {
 
 /// Each kind, and kinds that aren't, with each number of octets around all sizes; then the state, if the run goes on.
 fn sized_records() -> impl Iterator<Item = Vec<u8>> {
-    let kinds = (0..=13).chain([0x7F, 0xFF]);
+    let kinds = (0..=14).chain([0x7F, 0xFF]);
     kinds.flat_map(|kind| {
         (0..=20).map(move |size| {
             let mut input = Vec::new();

@@ -10,6 +10,8 @@ pub enum Plant {
     Mask,
     /// A take into a small buffer is refused with 6 instead of 7: one bit.
     Bit,
+    /// The queries find handle 0 where 1 is the lowest free one.
+    Free,
 }
 
 impl Plant {
@@ -18,6 +20,7 @@ impl Plant {
         match name {
             "mask" => Some(Plant::Mask),
             "bit" => Some(Plant::Bit),
+            "free" => Some(Plant::Free),
             _ => None,
         }
     }
@@ -36,9 +39,11 @@ pub fn trials(plant: Option<Plant>, setup: &[u8], lent: [&mut [u8]; 3], input: &
     let trial = Trial { setup: setup.to_vec(), pool, events, packets, room: out.len(), input };
     let mut octets = Vec::new();
     source::run(&trial, &mut octets, &mut Counts::off());
-    if plant == Some(Plant::Bit) {
-        octets = flipped(&trial, &octets);
-    }
+    octets = match plant {
+        Some(Plant::Bit) => changed(&trial, &octets, refused_otherwise),
+        Some(Plant::Free) => changed(&trial, &octets, free_from_zero),
+        _ => octets,
+    };
     out[..octets.len()].copy_from_slice(&octets);
     octets.len()
 }
@@ -58,15 +63,26 @@ fn masked(input: &[u8]) -> Vec<u8> {
     out
 }
 
-fn flipped(trial: &Trial, octets: &[u8]) -> Vec<u8> {
+/// The answers of a run, each changed by the kind of its record.
+fn changed(trial: &Trial, octets: &[u8], change: fn(u8, &mut [u8])) -> Vec<u8> {
     let records = records(&trial.input);
     let mut out = Vec::new();
     for (record, answer) in records.iter().zip(answers(&records, octets)) {
         let from = out.len();
         out.extend_from_slice(answer);
-        if record[0] == kind::TAKE && answer[0] == 7 {
-            out[from] ^= 1;
-        }
+        change(record[0], &mut out[from..]);
     }
     out
+}
+
+fn refused_otherwise(kind: u8, answer: &mut [u8]) {
+    if kind == kind::TAKE && answer[0] == 7 {
+        answer[0] ^= 1;
+    }
+}
+
+fn free_from_zero(kind: u8, answer: &mut [u8]) {
+    if kind == kind::QUERIES && answer[3..5] == [1, 0] {
+        answer[3] = 0;
+    }
 }

@@ -17,8 +17,17 @@ const ANSWER: usize = 128;
 /// A turn's name, the links that it needs, and its records by the handle of the last link.
 type Turn = (&'static str, u16, fn(u16) -> Vec<Record>);
 type Record = (u8, Vec<u8>);
-/// A state's links, and whether all else is filled. The turn may need more links.
-type State = (u16, bool);
+/// A state's links, and what else is filled. The turn may need more links.
+type State = (u16, Filled);
+
+#[derive(Clone, Copy)]
+enum Filled {
+    Nothing,
+    /// The accept list, but for one entry, and the resolving list.
+    Lists,
+    /// The lists, and the buffers but for one.
+    All,
+}
 
 const TURNS: [Turn; 6] = [
     ("read-2002", 0, |_| vec![command(0x2002, &[])]),
@@ -29,7 +38,8 @@ const TURNS: [Turn; 6] = [
     ("rssi-1405", 1, |last| vec![command(0x1405, &last.to_le_bytes())]),
 ];
 
-const STATES: [State; 4] = [(0, false), (4, false), (16, false), (16, true)];
+const STATES: [State; 5] =
+    [(0, Filled::Nothing), (4, Filled::Nothing), (16, Filled::Nothing), (0, Filled::Lists), (16, Filled::All)];
 
 pub struct Scenario {
     pub name: String,
@@ -47,28 +57,34 @@ pub fn named(name: &str) -> Option<Scenario> {
     all().into_iter().find(|scenario| scenario.name == name)
 }
 
-fn scenario((turn, needed, records): Turn, (links, full): State) -> Scenario {
+fn scenario((turn, needed, records): Turn, (links, filled): State) -> Scenario {
     let links = links.max(needed);
-    let name = match links {
-        _ if full => format!("{turn}-full"),
-        0 => format!("{turn}-empty"),
-        1 => format!("{turn}-1-link"),
-        _ => format!("{turn}-{links}-links"),
+    let name = match (filled, links) {
+        (Filled::All, _) => format!("{turn}-full"),
+        (Filled::Lists, _) => format!("{turn}-lists"),
+        (Filled::Nothing, 0) => format!("{turn}-empty"),
+        (Filled::Nothing, 1) => format!("{turn}-1-link"),
+        (Filled::Nothing, _) => format!("{turn}-{links}-links"),
     };
     let mut calls: Vec<Record> = (1..=links).map(open).collect();
-    if full {
-        calls.extend(filling(links));
+    match filled {
+        Filled::Nothing => {}
+        Filled::Lists => calls.extend(lists()),
+        Filled::All => calls.extend(lists().chain(packets(links))),
     }
     Scenario { name, state: calls, turn: records(links) }
 }
 
-/// Fills all that can be filled, but for one entry of the accept list and one buffer, which turns use. The packets wait evenly in
-/// all links.
-fn filling(links: u16) -> Vec<Record> {
+/// Fills the lists, but for one entry of the accept list, which a turn uses.
+fn lists() -> impl Iterator<Item = Record> {
     let accepted = (1..ACCEPT_LIST).map(|n| command(0x2011, &entry(n)));
     let identities = (1..=RESOLVING_LIST).map(|n| command(0x2027, &[&entry(n)[..], &[0; 32]].concat()));
-    let packets = (1..u16::from(ACL_COUNT)).map(|n| data(1 + n % links));
-    accepted.chain(identities).chain(packets).collect()
+    accepted.chain(identities)
+}
+
+/// Fills the buffers, but for one, which a turn uses. The packets wait evenly in all links.
+fn packets(links: u16) -> impl Iterator<Item = Record> {
+    (1..u16::from(ACL_COUNT)).map(move |n| data(1 + n % links))
 }
 
 impl Scenario {

@@ -217,4 +217,9 @@ mod tests {
     fn turned_bit() {
         found(Plant::Bit, 3);
     }
+
+    #[test]
+    fn other_free_handle() {
+        found(Plant::Free, 1);
+    }
 }

@@ -54,6 +54,14 @@ fn is_call(kind: u8, octets: usize) -> bool {
     kind == kind::PACKET || KINDS.get(usize::from(kind)).is_some_and(|(_, n)| *n == octets)
 }
 
+/// What the four queries find, the first two of a handle.
+fn put_found(c: &Controller, handle: u16, out: &mut Vec<u8>) {
+    out.push(u8::from(c.has_connection(handle)));
+    out.extend(c.terminating(handle).map_or([0, 0], |reason| [1, reason]));
+    put_word(out, c.free_handle());
+    put_word(out, c.acl_buffers_in_use() as u16);
+}
+
 fn answer(c: &mut Controller, given: &Given, kind: u8, p: &[u8], out: &mut Vec<u8>, counts: &mut Counts) {
     if kind == kind::STATE {
         let start = out.len();
@@ -61,7 +69,12 @@ fn answer(c: &mut Controller, given: &Given, kind: u8, p: &[u8], out: &mut Vec<u
         put_state(c, out);
         let length = (out.len() - start - 2) as u16;
         out[start..start + 2].copy_from_slice(&length.to_le_bytes());
-        counts.state();
+        counts.asked(kind);
+        return;
+    }
+    if kind == kind::QUERIES {
+        put_found(c, word_at(p, 0), out);
+        counts.asked(kind);
         return;
     }
     let number = refusal(c, given, kind, p);
@@ -186,6 +199,22 @@ mod tests {
         input.extend(record(kind::TAKE, &[1, 0, 9, 0]));
         assert_eq!(answers(&Trial { packets: 5, ..plain(input.clone()) }), "00000000".repeat(2) + "07000000");
         assert_eq!(answers(&Trial { packets: 6, ..plain(input) }), "00000000".repeat(2) + "00010600" + "0201200100aa");
+    }
+
+    #[test]
+    fn queries() {
+        let asked = |handle: u8| record(kind::QUERIES, &[handle, 0]);
+        let mut input = asked(1);
+        for handle in [1, 2] {
+            input.extend(record(kind::OPEN, &[handle, 0, 24, 0, 0, 0, 42, 0]));
+        }
+        input.extend(record(kind::PACKET, &[2, 1, 0, 1, 0, 0xAA]));
+        input.extend(record(kind::PACKET, &[1, 6, 4, 3, 1, 0, 0x13]));
+        input.extend([asked(1), asked(2), asked(3)].concat());
+        let disconnected = "00000700040f0400050604";
+        let found = ["01011303000100", "01000003000100", "00000003000100"].concat();
+        let before = "00000001000000".to_string() + &"00000000".repeat(3);
+        assert_eq!(answers(&plain(input)), before + disconnected + &found);
     }
 
     #[test]

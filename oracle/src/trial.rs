@@ -16,10 +16,11 @@ pub mod kind {
     pub const REMOTE_DISCONNECT: u8 = 9;
     pub const TIMEOUT: u8 = 10;
     pub const STATE: u8 = 11;
+    pub const QUERIES: u8 = 12;
 }
 
 /// The calls by their names in the source, and how many octets follow in a record; a packet has any number.
-pub const KINDS: [(&str, usize); 12] = [
+pub const KINDS: [(&str, usize); 13] = [
     ("on_packet", 0),
     ("take_transmit", 4),
     ("open_connection", 8),
@@ -32,7 +33,11 @@ pub const KINDS: [(&str, usize); 12] = [
     ("remote_disconnect", 3),
     ("advertising_timeout", 0),
     ("whole state", 0),
+    ("queries", 2),
 ];
+
+/// The octets of the queries' answer.
+pub const FOUND: usize = 7;
 
 /// A run ends where less than this is left for its answers: the most that one record can give.
 pub const ROOM: usize = 40_960;
@@ -87,11 +92,7 @@ pub fn records(mut input: &[u8]) -> Vec<Vec<u8>> {
 pub fn answers<'a>(records: &[Vec<u8>], mut octets: &'a [u8]) -> Vec<&'a [u8]> {
     let mut list = Vec::new();
     for record in records {
-        let header = if record[0] == kind::STATE { 2 } else { 4 };
-        if octets.len() < header {
-            break;
-        }
-        let length = header + usize::from(word_at(octets, header - 2));
+        let Some(length) = answer_length(record[0], octets) else { break };
         let (answer, rest) = octets.split_at(length.min(octets.len()));
         list.push(answer);
         octets = rest;
@@ -100,4 +101,14 @@ pub fn answers<'a>(records: &[Vec<u8>], mut octets: &'a [u8]) -> Vec<&'a [u8]> {
         list.push(octets);
     }
     list
+}
+
+/// The octets of the answer at the front to a record of this kind; None where they don't tell.
+fn answer_length(kind: u8, octets: &[u8]) -> Option<usize> {
+    let header = match kind {
+        kind::QUERIES => return (!octets.is_empty()).then_some(FOUND),
+        kind::STATE => 2,
+        _ => 4,
+    };
+    (octets.len() >= header).then(|| header + usize::from(word_at(octets, header - 2)))
 }

@@ -1,5 +1,5 @@
 -- The laws of `command`.
 pub mod Recording
-pub mod Routing
 pub mod Giving
-pub mod Finishing
+pub mod Coursing
+pub mod Reasons

@@ -7,12 +7,12 @@ ghost use Rattle.signed.specs.Signed.{octetOf};
 ghost use Rattle.answers.specs.Answers.{complete, status};
 ghost use Rattle.commands.specs.Outcome.{Answers, done};
 ghost use Rattle.commands.specs.Command.{familyOf, refused};
-ghost use Rattle.command.specs.Calling.{differs, putFamily};
+ghost use Rattle.command.specs.Calling.{differs, familyIn};
 use answers::Answer;
 use profile::ControllerRow;
-use state::Controller;
 use state::EXTENDED;
 use state::LEGACY;
+use state::Settings;
 
 // The advertising family of an opcode: LEGACY, EXTENDED or 0.
 pub fn family_of(op: u16) -> u8
@@ -46,15 +46,16 @@ pub fn other_family(family: u8, now: u8) -> bool
     now != family
 }
 
-// The state with a command's family set.
-pub fn with_family(s: Controller, family: u8) -> Controller
-    ensures { λ r. ⌜ r ≡ putFamily family s ⌝ }
+// The settings with a command's family set, where it has one.
+pub fn with_family(settings: Settings, op: u16) -> Settings
+    ensures { λ r. ⌜ r ≡ familyIn op settings ⌝ }
 {
+    let family = family_of(op);
     if family == 0 {
-        return s;
+        return settings;
     }
-    let mut t = s;
-    t.settings.advertising_family = family;
+    let mut t = settings;
+    t.advertising_family = family;
     t
 }
 

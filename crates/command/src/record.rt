@@ -1,77 +1,56 @@
 // What is counted and remembered of every command.
 ghost use mathlib.Core.Path.{_≡_};
-ghost use mathlib.Core.List.{List, [], _∷_, _++_};
-ghost use Prim.Native.Nat.{ℕ, _≤_};
-ghost use lib.ListN.{length, getD};
-ghost use Rattle.profile.specs.declared.ControllerRow.{ControllerRow};
-ghost use Rattle.answers.specs.Answers.{answerOf, octetsOf, AnswerHolds};
-ghost use Rattle.state.specs.State.{view, remember, countCommand, countUnknown};
-ghost use Rattle.state.specs.Holding.{StateHolds};
-ghost use Rattle.octets.specs.Octets.{le, Put};
-ghost use Rattle.commands.specs.Parts.{withRecent};
-ghost use Rattle.commands.specs.Put.{putCounters};
-ghost use Rattle.commands.specs.Command.{remembered as isRemembered};
-ghost use Rattle.commands.specs.Leaves.{Modest};
+ghost use Prim.Native.Nat.{_≤_};
+ghost use lib.ListN.{getD};
+ghost use Rattle.answers.specs.Answers.{answerOf, AnswerHolds};
+ghost use Rattle.state.specs.State.{answersOf};
+ghost use Rattle.command.specs.Calling.{begunFrom, rememberedIn, CanFinish, Finished};
+use crate::Told;
+use crate::family;
 use answers::Answer;
 use answers::Form;
 use state::Controller;
+use state::Recent;
 
-// One command more.
-pub fn counted(s: Controller) -> Controller
-    ensures { λ r. ⌜ r ≡ putCounters (countCommand (s .counters)) s ⌝ }
+// The state with one command more and the command's family set, which every command that is carried out begins with.
+pub fn begun(s: Controller, op: u16) -> Controller
+    ensures { λ r. ⌜ r ≡ begunFrom op s ⌝ }
 {
     let mut t = s;
     let counters = s.counters;
     let more = counters.count_command();
     t.counters = more;
+    let settings = family::with_family(s.settings, op);
+    t.settings = settings;
     t
 }
 
-// One unknown command more.
-pub fn unknown_counted(s: Controller) -> Controller
-    ensures { λ r. ⌜ r ≡ putCounters (countUnknown (s .counters)) s ⌝ }
+// The end of every command: its answer is remembered, and written to the front of out.
+pub fn finished(s: Controller, num: u8, op: u16, answer: Answer, out: &mut [u8]) -> Told
+    requires { ⌜ CanFinish s answer (now out) ⌝ }
+    ensures { λ r. ⌜ Finished num op (answerOf answer) s (now (out .entry)) r (now (out .exit)) ⌝ }
 {
     let mut t = s;
-    let counters = s.counters;
-    let more = counters.count_unknown();
-    t.counters = more;
-    t
-}
-
-// Opcode and status go to the last answers, unless there was no acknowledgement.
-pub fn remembered(s: Controller, op: u16, answer: Answer) -> Controller
-    requires { ⌜ (s .recent .count ≤ 32) × AnswerHolds answer ⌝ }
-    ensures viewed { λ r. ⌜ ((size : ℕ) (pool : List ℕ) → view r size pool ≡ isRemembered (answerOf answer .form) op (answerOf answer .octets) (view s size pool)) ⌝ }
-    ensures held { λ r. ⌜ ((k : ControllerRow) → StateHolds s k → StateHolds r k) ⌝ }
-{
-    let form = answer.form;
-    let code = status_of(answer);
-    match form {
-        Form::Complete => with_answer(s, op, code),
-        Form::Status => with_answer(s, op, code),
-        Form::Silent => s,
+    let recent = remembered(s.recent, op, answer);
+    t.recent = recent;
+    let written = answers::write_answer(answer, num, op, out);
+    Told {
+        number: 0,
+        state: t,
+        written,
     }
 }
 
-// The state with one answer more.
-fn with_answer(s: Controller, op: u16, code: u8) -> Controller
-    requires { ⌜ s .recent .count ≤ 32 ⌝ }
-    ensures viewed { λ r. ⌜ ((size : ℕ) (pool : List ℕ) → view r size pool ≡ withRecent (remember (le 2 op ++ (code ∷ [])) (view s size pool .recent)) (view s size pool)) ⌝ }
-    ensures held { λ r. ⌜ ((k : ControllerRow) → StateHolds s k → StateHolds r k) ⌝ }
+// Opcode and status go to the last answers, unless there was no acknowledgement.
+fn remembered(recent: Recent, op: u16, answer: Answer) -> Recent
+    requires { ⌜ (recent .count ≤ 32) × AnswerHolds answer ⌝ }
+    ensures { λ r. ⌜ (answersOf r ≡ rememberedIn (answerOf answer .form) op (answerOf answer .octets) (answersOf recent)) × (r .count ≤ 32) ⌝ }
 {
-    let mut t = s;
-    let recent = s.recent;
-    let more = state::remember(recent, op, code);
-    t.recent = more;
-    t
-}
-
-// Writes the events of an answer that fits to the front of out.
-pub fn written(answer: Answer, num: u8, op: u16, out: &mut [u8]) -> usize
-    requires { ⌜ AnswerHolds answer × (Modest (answerOf answer) × (71 ≤ length (now out))) ⌝ }
-    ensures { λ r. ⌜ Put (now (out .entry)) 0 (octetsOf num op (answerOf answer)) r (now (out .exit)) ⌝ }
-{
-    answers::write_answer(answer, num, op, out)
+    let form = answer.form;
+    match form {
+        Form::Silent => recent,
+        _ => state::remember(recent, op, status_of(answer)),
+    }
 }
 
 // The status: the first octet of an answer.

@@ -1,6 +1,5 @@
 -- From what a command's functions ensure to what the table asks: an answer that is the definition's, alone and beside the state
--- after the command; a part that was put back; and that the state holds together with its new part. For the crates of the
--- commands.
+-- after the command; and that the state holds together with its new part. For the crates of the commands.
 use mathlib.Core.Path.{_≡_, sym, ap, _∙_}
 use Prim.Native.Nat.{ℕ, _≤_}
 use mathlib.Core.List.{List}
@@ -80,16 +79,6 @@ module _ {f : Model → Outcome} {k : ControllerRow} {s : Controller} where
     held = held;
     shaped = e .1;
   }
-
-  -- a part that was put back: t and b are the state and the answer of the function that put it
-  pub gives-put : {t u : Controller} {a b : Answer} → (t ≡ u) × (b ≡ a) → Gives f k s u a → Gives f k s t b
-  gives-put e g = rw (e .0, e .1) g
-
-  -- an answer that changed nothing, where the definition f changes nothing and answers `expected`
-  pub gives-unchanged : {t : Controller} {a b : Answer} (expected : AnswerModel) → (t ≡ s) × (b ≡ a) → Answers expected a
-      → ((size : ℕ) (pool : List ℕ) → f (view s size pool) ≡ outcome expected (view s size pool)) → StateHolds s k
-      → Gives f k s t b
-  gives-unchanged expected e answers same held = gives-put e (gives-answer (answers .same, answers .shaped) same held)
 
   -- the connection of handle h changed by g, which keeps its handle
   pub gives-changed : {r : Links} {expected : AnswerModel} {a : Answer} (h : ℕ) (g : Connection → Connection)

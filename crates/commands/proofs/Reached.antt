@@ -1,5 +1,5 @@
--- The arms of a family's `match` on the opcode: what the row of an arm tells the function that it calls, and that the last arm is
--- never reached. For the five dispatchers.
+-- The arms of a `match` on the opcode: what the row of an arm tells the function that it calls, and that the last arm is never
+-- reached. For `dispatch`.
 use mathlib.Core.Path.{_≡_, sym}
 use Prim.Native.Nat.{ℕ, _≤_}
 use mathlib.Core.List.{List, [], _∷_}
@@ -31,7 +31,7 @@ no-row op n before (r ∷ l) x h =
     let other = passed-before op (before × (op ≡ r .opcode → ⊥)) l x .1 in
     no-row op n (before × (op ≡ r .opcode → ⊥)) l x (rw (ne-eqb (r .opcode) op (λ e. other (sym e))) at h)
 
--- The last arm of a family, `rest` being the `match`'s, which is called only where the number of parameters is right: without a
+-- The last arm, `rest` being the `match`'s, which is called only where the number of parameters is right: without a
 -- row none is. This is why the last arm of the source's `test_and_power`, which answers Unknown Command, is never reached.
 pub last-arm-never : (op n : ℕ) (l : List Row) → Passed op (Unit {0}) l → sized op l n ≡ true → ⊥
 last-arm-never op n l rest fits = no-row op n (Unit {0}) l rest fits

@@ -1,12 +1,12 @@
--- The table of commands: the code's two arrays are its first two columns, and an opcode is found where its place says, in the
--- table of its family. For the code of the table, and for `command`.
+-- The table of commands: the code's two arrays are its first two columns, and an opcode is found where its place says. For the code
+-- of the table, for `dispatch` and for `command`.
 use mathlib.Core.Path.{_≡_, refl, sym}
-use Prim.Native.Nat.{ℕ, _+_, _≤_, _<_}
+use Prim.Native.Nat.{ℕ, _≤_, _<_}
 use native.Mathlib.Omega.{arith}
-use mathlib.Core.List.{List, [], _∷_, _++_, map}
+use mathlib.Core.List.{List, [], _∷_, map}
 use mathlib.Core.Bool.{Bool, true, false, true≢false, cond}
 use lib.Dec.{eqb, ltb}
-use lib.ListN.{length, getD, List·getD-map, List·getD-eq-default}
+use lib.ListN.{getD, List·getD-map, List·getD-eq-default}
 use borrow.Author.Tests.{ltb-true, ne-eqb}
 use borrow.Table.Steps.{cases}
 use Rattle.lists.specs.Lists.{firstAt, all}
@@ -46,7 +46,7 @@ size-at i n h =
 pub size-past : (i n : ℕ) → 71 ≤ i → fits (getD rows i noRow .size) n ≡ false
 size-past i n h = rw (List·getD-eq-default rows noRow h)
 
--- ---- an opcode in tables that stand one behind the other
+-- ---- an opcode in the table
 
 -- the place of an opcode in a table
 abbrev pub placeIn : ℕ → List Row → ℕ
@@ -57,29 +57,3 @@ pub find-at : (op : ℕ) (l : List Row) → find op l ≡ getD l (placeIn op l) 
 unfolding find firstAt
 find-at op [] = refl
 find-at op (r ∷ l) = cases (eqb (r .opcode) op) (λ e. rw e) (λ e. rw e (find-at op l))
-
--- in the first table, where its place is there
-pub find-first : (op : ℕ) (l rest : List Row) → placeIn op (l ++ rest) < length l → find op (l ++ rest) ≡ find op l
-unfolding find firstAt
-find-first op [] rest h = absurd (omega arith)
-find-first op (r ∷ l) rest h =
-    cases (eqb (r .opcode) op)
-    (λ e. rw e)
-    (λ e. rw e (find-first op l rest (let k = rw e at h in omega arith)))
-
--- else in the tables behind it
-pub find-rest : (op : ℕ) (l rest : List Row) → length l ≤ placeIn op (l ++ rest) → find op (l ++ rest) ≡ find op rest
-unfolding find firstAt
-find-rest op [] rest h = refl
-find-rest op (r ∷ l) rest h =
-    cases (eqb (r .opcode) op)
-    (λ e. let k = rw e at h in absurd (omega arith))
-    (λ e. rw e (find-rest op l rest (let k = rw e at h in omega arith)))
-
-pub place-rest : (op : ℕ) (l rest : List Row) → length l ≤ placeIn op (l ++ rest) → placeIn op (l ++ rest) ≡ length l + placeIn op rest
-unfolding firstAt
-place-rest op [] rest h = omega arith
-place-rest op (r ∷ l) rest h =
-    cases (eqb (r .opcode) op)
-    (λ e. let k = rw e at h in absurd (omega arith))
-    (λ e. rw e (let ih = place-rest op l rest (let k = rw e at h in omega arith) in omega arith))

@@ -1,15 +1,13 @@
-// The answer of a command beside the state, or beside the one part of the state that the command changes: a part is smaller to
-// hand back than the whole, and one function here puts it into the state.
+// The answer of a command beside the one part of the state that the command changes, which is smaller to hand back than the whole, or,
+// for Reset, beside the state.
 ghost use mathlib.Core.Path.{_≡_};
 ghost use Rattle.commands.specs.Outcome.{Answers, done};
-ghost use Rattle.commands.specs.Put.{putMasks, putSettings, putAdvertising, putScanning, putAcceptList, putResolvingList, putLinks};
 use answers::Answer;
 use filters::AcceptList;
 use filters::ResolvingList;
 use links::Links;
 use state::Advertising;
 use state::Controller;
-use state::Masks;
 use state::Scanning;
 use state::Settings;
 
@@ -66,83 +64,4 @@ pub fn list_answered(list: ResolvingList, code: u8) -> ResolvingAnswered
         resolving_list: list,
         answer: answers::done(code),
     }
-}
-
-// A command that changes nothing.
-pub fn unchanged(s: Controller, answer: Answer) -> Answered
-    ensures { λ r. ⌜ (r .state ≡ s) × (r .answer ≡ answer) ⌝ }
-{
-    Answered { state: s, answer }
-}
-
-// Other masks; no command that sets one fails.
-pub fn put_masks(s: Controller, masks: Masks) -> Answered
-    ensures { λ r. ⌜ (r .state ≡ putMasks masks s) × Answers (done 0) (r .answer) ⌝ }
-{
-    let mut t = s;
-    t.masks = masks;
-    Answered {
-        state: t,
-        answer: answers::done(0),
-    }
-}
-
-pub fn put_settings(s: Controller, given: SettingsAnswered) -> Answered
-    ensures { λ r. ⌜ (r .state ≡ putSettings (given .settings) s) × (r .answer ≡ given .answer) ⌝ }
-{
-    let mut t = s;
-    let part = given.settings;
-    t.settings = part;
-    let answer = given.answer;
-    Answered { state: t, answer }
-}
-
-pub fn put_advertising(s: Controller, given: AdvertisingAnswered) -> Answered
-    ensures { λ r. ⌜ (r .state ≡ putAdvertising (given .advertising) s) × (r .answer ≡ given .answer) ⌝ }
-{
-    let mut t = s;
-    let part = given.advertising;
-    t.advertising = part;
-    let answer = given.answer;
-    Answered { state: t, answer }
-}
-
-pub fn put_scanning(s: Controller, given: ScanningAnswered) -> Answered
-    ensures { λ r. ⌜ (r .state ≡ putScanning (given .scanning) s) × (r .answer ≡ given .answer) ⌝ }
-{
-    let mut t = s;
-    let part = given.scanning;
-    t.scanning = part;
-    let answer = given.answer;
-    Answered { state: t, answer }
-}
-
-pub fn put_accept_list(s: Controller, given: AcceptAnswered) -> Answered
-    ensures { λ r. ⌜ (r .state ≡ putAcceptList (given .«accept_list») s) × (r .answer ≡ given .answer) ⌝ }
-{
-    let mut t = s;
-    let part = given.accept_list;
-    t.accept_list = part;
-    let answer = given.answer;
-    Answered { state: t, answer }
-}
-
-pub fn put_resolving_list(s: Controller, given: ResolvingAnswered) -> Answered
-    ensures { λ r. ⌜ (r .state ≡ putResolvingList (given .«resolving_list») s) × (r .answer ≡ given .answer) ⌝ }
-{
-    let mut t = s;
-    let part = given.resolving_list;
-    t.resolving_list = part;
-    let answer = given.answer;
-    Answered { state: t, answer }
-}
-
-pub fn put_links(s: Controller, given: LinksAnswered) -> Answered
-    ensures { λ r. ⌜ (r .state ≡ putLinks (given .links) s) × (r .answer ≡ given .answer) ⌝ }
-{
-    let mut t = s;
-    let part = given.links;
-    t.links = part;
-    let answer = given.answer;
-    Answered { state: t, answer }
 }

@@ -1,22 +1,36 @@
--- What `on_packet` promises, from what `receive::on_packet` gives: what that counts on where questions 1 to 5 have the answer "yes",
--- and the call's contract where one has "no" and where none has. For `packets`.
-use mathlib.Core.Path.{_≡_, refl, sym, _∙_}
-use Prim.Native.Nat.{ℕ, _*_}
+-- What `on_packet` promises, by what the packet asks for: what the functions that it calls count on where questions 1 to 5 have the
+-- answer "yes", and the call's contract where one has "no" and where none has. For `packets`.
+use mathlib.Core.Path.{_≡_, refl, sym, ap, _∙_}
+use Prim.Native.Nat.{ℕ, _*_, _≤_}
+use mathlib.Core.Logic.{inl, inr}
 use mathlib.Core.List.{List, [], _∷_}
 use native.Mathlib.Omega.{arith}
 use lib.Dec.{leb}
 use lib.ListN.{length}
 use borrow.Author.Tests.{leb-true}
+use Rattle.octets.specs.Octets.{octet}
+use Rattle.hci.specs.Read.{parseCommand, parameters}
 use Rattle.profile.specs.declared.ControllerRow.{ControllerRow}
 use Rattle.profile.specs.Profile.{withinLimits, rowsFit}
 use Rattle.profile.proofs.Limits.{within-limits, rows-fit, rows-answer}
 use Rattle.state.specs.Holding.{stateHolds, placeSize}
 use Rattle.state.specs.declared.Controller.{Controller}
 use Rattle.state.proofs.Holding.{state-told}
-use Rattle.calls.specs.Calls.{onPacket, held}
+use Rattle.commands.specs.Outcome.{given, Ready}
+use Rattle.dispatch.specs.declared.Part.{Part}
+use Rattle.command.specs.declared.Told.{Told}
+use Rattle.command.specs.declared.course.Reason.{Reason}
+use Rattle.command.specs.declared.course.Course.{Course}
+use Rattle.command.specs.declared.course.Course.the-variants as course
+use Rattle.command.specs.Calling.{answeredBy, carriedBy, ShapedProfile, CanCarry, Gave}
+use Rattle.calls.specs.Calls.{onPacket, Held, held}
 use Rattle.calls.specs.Gives.{Accepted, Gives, events, profileOf}
-use Rattle.receive.specs.Receiving.{CanReceive}
-use Rattle.controller.specs.Asked.{question, aboutPacket}
+use Rattle.receive.specs.declared.Task.{Task}
+use Rattle.receive.specs.declared.Task.the-variants as task
+use Rattle.receive.specs.Receiving.{IsCommand, parametersOf, Quiet, Tasks, Delivers}
+use Rattle.receive.proofs.Carrying.{params-long, carries-none, carries-course}
+use Rattle.receive.proofs.Accepting.{accepted-command, accepted-data, accepted-nothing}
+use Rattle.controller.specs.Asked.{question, aboutPacket, CanReceive}
 use Rattle.controller.proofs.Asking.{first-yes}
 
 -- questions 1 to 5 have the answer "yes"
@@ -42,19 +56,79 @@ can-receive k opcodes answers bits s pool out e z =
       room = leb-true 71 (length out) (room .0);
     }
 
+-- the parameters of a command that was read whole
+parameters-whole : {opcodes answers p q : List ℕ} {family op : ℕ} {c : Course} → IsCommand opcodes answers family p op c
+    → q ≡ parametersOf (parseCommand p) p → q ≡ parameters p
+parameters-whole c same = rw (c .read) at same
+
 module _ {k : ControllerRow} {opcodes answers bits address p : List ℕ} {random : ℕ} {s : Controller} {pool out : List ℕ} {number : ℕ} where
   -- one has "no"
-  pub receives-not : number ≡ aboutPacket k opcodes answers bits s (length pool) (length out) → (number ≡ 0 → ⊥)
-      → Gives (profileOf k opcodes answers bits) (onPacket address random p) (held s pool) (held s pool) (events number 0 out out)
-  receives-not e told = record {
-    number = e;
-    refused = λ h. record { same = refl; buffer = refl; nothing = (refl, refl) };
-    accepted = λ z. absurd (told z);
+  pub receives-not : {r : Told} → number ≡ aboutPacket k opcodes answers bits s (length pool) (length out) → (number ≡ 0 → ⊥)
+      → (r .number ≡ number) × (r .state ≡ s) × (r .written ≡ 0)
+      → Gives (profileOf k opcodes answers bits) (onPacket address random p) (held s pool) (held (r .state) pool) (events (r .number) (r .written) out out)
+  receives-not e told same = record {
+    number = same .0 ∙ e;
+    refused = λ h. record { same = ap (λ (x : Controller). held x pool) (same .1); buffer = refl; nothing = (same .2, refl) };
+    accepted = λ z. absurd (told (sym (same .0) ∙ z));
   }
 
-  -- none has
-  pub receives : {t : Controller} {left after : List ℕ} {written : ℕ}
-      → number ≡ aboutPacket k opcodes answers bits s (length pool) (length out) → number ≡ 0
-      → Accepted (profileOf k opcodes answers bits) (onPacket address random p) (held s pool) (held t left) (events 0 written out after)
-      → Gives (profileOf k opcodes answers bits) (onPacket address random p) (held s pool) (held t left) (events 0 written out after)
-  receives e z given = record { number = sym z ∙ e; refused = λ h. absurd (omega arith); accepted = λ same. given }
+-- none has: what the packet asks for decides
+module _ {k : ControllerRow} {opcodes answers : List ℕ} (bits address : List ℕ) (random : ℕ) {p : List ℕ} {s : Controller} {pool out : List ℕ} {number : ℕ}
+    (asked : number ≡ aboutPacket k opcodes answers bits s (length pool) (length out)) (none : number ≡ 0) where
+  accepted : {t : Held} {told n : ℕ} {after : List ℕ} → told ≡ 0
+      → Accepted (profileOf k opcodes answers bits) (onPacket address random p) (held s pool) t (events 0 n out after)
+      → Gives (profileOf k opcodes answers bits) (onPacket address random p) (held s pool) t (events told n out after)
+  accepted zero given = rw zero (record { number = sym none ∙ asked; refused = λ h. absurd (omega arith); accepted = λ e. given })
+
+  pub gives-nothing : {r : Told} → Quiet p → (r .number ≡ 0) × (r .state ≡ s) × (r .written ≡ 0)
+      → Gives (profileOf k opcodes answers bits) (onPacket address random p) (held s pool) (held (r .state) pool) (events (r .number) (r .written) out out)
+  gives-nothing (inl other) same =
+      accepted (same .0) (accepted-nothing (other .0) (other .1) (same .1, same .2) (can-receive k opcodes answers bits s pool out asked none .store .ready .holds))
+  gives-nothing (inr (first, quiet)) same =
+      accepted (same .0)
+      (accepted-command first (carries-none (quiet (profileOf k opcodes answers bits) address random) (same .1, same .2) (can-receive k opcodes answers bits s pool out asked none .store .ready .holds)))
+
+  pub gives-data : {r : Told} {left : List ℕ} → octet p 0 ≡ 2
+      → (r .number ≡ 0) × (r .written ≡ 0) × Delivers k p (held s pool) (held (r .state) left)
+      → Gives (profileOf k opcodes answers bits) (onPacket address random p) (held s pool) (held (r .state) left) (events (r .number) (r .written) out out)
+  gives-data first does = accepted (does .0) (accepted-data first (does .1) (does .2))
+
+  module _ {op : ℕ} {r : Told} {after : List ℕ} where
+    pub gives-answered : {reason : Reason} → IsCommand opcodes answers (s .settings .«advertising_family») p op (course.Answered reason)
+        → Gave (answeredBy reason k op) k op s out r after
+        → Gives (profileOf k opcodes answers bits) (onPacket address random p) (held s pool) (held (r .state) pool) (events (r .number) (r .written) out after)
+    gives-answered {reason} c does =
+        accepted (does .number) (accepted-command (c .first) (carries-course (λ h. answeredBy reason (h .profile) op) c (c .courses) does))
+
+    pub gives-carried : {part : Part} {q : List ℕ} → IsCommand opcodes answers (s .settings .«advertising_family») p op (course.Carried part)
+        → q ≡ parametersOf (parseCommand p) p → Gave (carriedBy (given k address random q) op) k op s out r after
+        → Gives (profileOf k opcodes answers bits) (onPacket address random p) (held s pool) (held (r .state) pool) (events (r .number) (r .written) out after)
+    gives-carried c same does =
+        accepted (does .number)
+        (accepted-command (c .first) (carries-course (λ h. carriedBy h op) c (c .courses .2) (rw (parameters-whole c same) at does)))
+
+-- what a command that is carried out counts on
+pub can-carry : {k : ControllerRow} {opcodes answers p q out : List ℕ} {s : Controller} {op : ℕ} {part : Part} → Ready s k → ShapedProfile k
+    → 71 ≤ length out → IsCommand opcodes answers (s .settings .«advertising_family») p op (course.Carried part)
+    → q ≡ parametersOf (parseCommand p) p → CanCarry s k op part q out
+can-carry {p = p} ready shaped room c same = record {
+  ready = ready;
+  shaped = shaped;
+  listed = c .courses .0;
+  sized = rw (ap length (parameters-whole c same) ∙ params-long p (c .read)) (c .courses .1);
+  room = room;
+}
+
+-- what the match on the task tells
+module _ (opcodes answers : List ℕ) (family : ℕ) (p : List ℕ) {t : Task} (told : Tasks opcodes answers family p t) where
+  pub is-nothing : t ≡ task.Nothing → Quiet p
+  is-nothing e = rw e at told
+
+  pub is-data : t ≡ task.Data → octet p 0 ≡ 2
+  is-data e = rw e at told
+
+  pub is-answered : {op : ℕ} {reason : Reason} → t ≡ task.Answered op reason → IsCommand opcodes answers family p op (course.Answered reason)
+  is-answered e = rw e at told
+
+  pub is-carried : {op : ℕ} {part known : Part} → t ≡ task.Carried op part → part ≡ known → IsCommand opcodes answers family p op (course.Carried known)
+  is-carried e same = rw same at (rw e at told)

@@ -1,18 +1,19 @@
--- The questions that several calls begin with, as numbers: 0, or the number of the first "no"; and what the writer of a notice's
--- event counts on. For the inner functions of this crate; the contracts of the exported calls are `Rattle.calls.specs.Gives`.
+-- The questions that several calls begin with, as numbers: 0, or the number of the first "no"; and what receiving a
+-- packet and writing a notice's event count on. For the inner functions of this crate; the contracts of the exported calls are `Rattle.calls.specs.Gives`.
 use mathlib.Core.Path.{_≡_}
 use Prim.Native.Nat.{ℕ, _*_, _≤_}
 use mathlib.Core.List.{List, [], _∷_}
-use mathlib.Core.Bool.{Bool}
+use mathlib.Core.Bool.{Bool, true}
 use lib.Dec.{leb}
 use lib.ListN.{length}
 use Rattle.profile.specs.declared.ControllerRow.{ControllerRow}
-use Rattle.profile.specs.Profile.{withinLimits, rowsFit}
+use Rattle.profile.specs.Profile.{withinLimits, rowsFit, answersFit}
 use Rattle.answers.specs.declared.Answer.{Answer}
 use Rattle.answers.specs.Answers.{AnswerHolds, answerOf}
 use Rattle.state.specs.Holding.{stateHolds, placeSize}
 use Rattle.state.specs.declared.Controller.{Controller}
 use Rattle.calls.specs.Calls.{Question, firstNo}
+use Rattle.receive.specs.Receiving.{CanStore}
 
 abbrev pub question : ℕ → Bool → Question
 question n answer = record { number = n; yes = answer }
@@ -40,4 +41,10 @@ aboutPacket k opcodes answers bits s pool room =
 pub record CanTell (a : Answer) (out : List ℕ) : Type 0 where
   pub holds : AnswerHolds a
   pub alone : answerOf a .octets ≡ []
+  pub room : 71 ≤ length out
+
+-- what receiving a packet counts on: questions 1 to 5 were answered
+pub record CanReceive (s : Controller) (profile : ControllerRow) (opcodes answers pool out : List ℕ) : Type 0 where
+  pub store : CanStore s profile pool
+  pub rows : answersFit opcodes answers ≡ true
   pub room : 71 ≤ length out

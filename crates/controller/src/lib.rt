@@ -14,6 +14,7 @@ mod telling;
 
 pub use changing::peer_update;
 pub use changing::request_ltk;
+pub use command::Told;
 pub use counting::completed;
 pub use counting::drop_in_flight;
 pub use ending::complete_disconnect;
@@ -35,14 +36,6 @@ pub use taking::take_transmit;
 pub struct Changed {
     pub number: u8,
     pub state: Controller,
-}
-
-// What a call gives that tells the host: 0 or the number of a refusal, the state after it, and how many octets of events stand at
-// the front of the buffer.
-pub struct Told {
-    pub number: u8,
-    pub state: Controller,
-    pub written: usize,
 }
 
 // What a take gives: 0 or the number of a refusal, the state after it, how many packets were taken, and how many octets they have

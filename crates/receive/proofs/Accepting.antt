@@ -1,9 +1,8 @@
--- What a packet gives by its first octet, from what `on_command` and `acl` give: a command, data, or another packet, which does
+-- What a packet gives by its first octet, from what `command` and `acl` give: a command, data, or another packet, which does
 -- nothing. For `on_packet`.
 use mathlib.Core.Path.{_≡_, refl, ap}
 use Prim.Native.Nat.{ℕ}
-use mathlib.Core.List.{List, [], _∷_}
-use lib.ListN.{length}
+use mathlib.Core.List.{List}
 use native.Mathlib.Omega.{arith}
 use borrow.Author.Tests.{ne-eqb}
 use Rattle.octets.specs.Octets.{octet}
@@ -16,11 +15,6 @@ use Rattle.calls.specs.Packets as packets
 use Rattle.calls.specs.Calls.{onPacket, Held, held}
 use Rattle.calls.specs.Gives.{Accepted, events}
 use Rattle.receive.specs.Receiving.{Delivers, Carries}
-
--- the empty packet has no first octet
-pub empty : (p : List ℕ) → length p ≡ 0 → octet p 0 ≡ 0
-empty [] e = refl
-empty (x ∷ p) e = absurd (omega arith)
 
 module _ {g : Profile} {address : List ℕ} {random : ℕ} {p : List ℕ} {out : List ℕ} {n : ℕ} where
   pub accepted-command : {s t : Controller} {pool after : List ℕ} → octet p 0 ≡ 1 → Carries g address random p s t out n after

@@ -2,3 +2,4 @@
 pub mod Carrying
 pub mod Delivering
 pub mod Accepting
+pub mod Tasking

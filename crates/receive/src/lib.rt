@@ -1,15 +1,18 @@
-// A packet from the host, by its first octet: a command is carried out, data is queued for its link or dropped (`on_packet` and
-// `acl` of the source). For the controller's `on_packet`, which asks its questions first. Contracts cite `calls/specs/Gives.antt`
-// and `specs/Receiving.antt`.
+// A packet from the host, by its first octet: what it asks for, a command's parameters, and data, which is queued for its link or
+// dropped (`on_packet` and `acl` of the source). For the controller's `on_packet`, which asks its questions first and has commands
+// carried out. Contracts cite `specs/Receiving.antt`.
 ghost use mathlib.Core.Path.{_≡_};
-ghost use mathlib.Core.List.{List};
-ghost use Prim.Native.Nat.{ℕ};
-ghost use Rattle.calls.specs.Calls.{onPacket, held};
-ghost use Rattle.calls.specs.Gives.{Accepted, events, profileOf};
+ghost use mathlib.Core.Bool.{true};
+ghost use Rattle.hci.specs.Read.{parseCommand};
+ghost use Rattle.profile.specs.Profile.{answersFit};
+ghost use Rattle.calls.specs.Calls.{held};
 ghost use Rattle.commands.specs.Put.{putCounters};
 ghost use Rattle.state.specs.State.{countDropped};
-ghost use Rattle.command.specs.Calling.{CanCommand};
-ghost use Rattle.receive.specs.Receiving.{CanStore, CanReceive, Delivers, Carries};
+ghost use Rattle.receive.specs.Receiving.{CanStore, Delivers, parametersOf, Tasks, CommandTask};
+use command::Course;
+use command::Reason;
+use command::Told;
+use dispatch::Part;
 use h4::H4_ACL;
 use h4::H4_COMMAND;
 use hci::Acl;
@@ -19,10 +22,64 @@ use hci::CommandRead;
 use profile::ControllerRow;
 use state::Controller;
 
-// The state after a packet, and how many octets of events were written.
-pub struct Received {
-    pub state: Controller,
-    pub written: usize,
+// What a packet asks for. A command comes with its opcode.
+pub enum Task {
+    Nothing,
+    Data,
+    Answered(u16, Reason),
+    Carried(u16, Part),
+}
+
+// What a packet asks for, where `family` is the advertising family of the state. A packet of another kind, the empty one, and a
+// command that is cut short, which can't be acknowledged by its opcode, ask for nothing.
+pub fn task_of(opcodes: &[u16], answers: &[u8], family: u8, packet: &[u8]) -> Task
+    requires { ⌜ answersFit (now opcodes) (now answers) ≡ true ⌝ }
+    ensures { λ r. ⌜ Tasks (now (opcodes .entry)) (now (answers .entry)) family (now (packet .entry)) r ⌝ }
+{
+    if packet.len() == 0 {
+        return Task::Nothing;
+    }
+    let kind = packet[0];
+    if kind == H4_ACL {
+        return Task::Data;
+    }
+    if kind != H4_COMMAND {
+        return Task::Nothing;
+    }
+    let read = Command::parse(packet);
+    match read {
+        CommandRead::Whole(c) => command_task(opcodes, answers, family, c.opcode, c.len),
+        CommandRead::ShortHeader => Task::Nothing,
+        CommandRead::NotCommand => Task::Nothing,
+        CommandRead::ShortParameters => Task::Nothing,
+    }
+}
+
+// A command with this opcode and so many parameters.
+fn command_task(opcodes: &[u16], answers: &[u8], family: u8, op: u16, len: u8) -> Task
+    requires { ⌜ answersFit (now opcodes) (now answers) ≡ true ⌝ }
+    ensures { λ r. ⌜ CommandTask (now (opcodes .entry)) (now (answers .entry)) family op len r ⌝ }
+{
+    let answering = profile::row_answer(opcodes, answers, op);
+    let course = command::course_of(answering, op, family, len as usize);
+    match course {
+        Course::Answered(reason) => Task::Answered(op, reason),
+        Course::Carried(part) => Task::Carried(op, part),
+    }
+}
+
+// The parameters of a command: the part of the packet from its fifth octet, as many as its length says. Empty where the packet is no
+// command, or is cut short.
+pub fn parameters(packet: &[u8]) -> &[u8]
+    ensures { λ r. ⌜ now r ≡ parametersOf (parseCommand (now (packet .entry))) (now (packet .entry)) ⌝ }
+{
+    match Command::parse(packet) {
+        CommandRead::Whole(c) => {
+            let end = 4 + (c.len as usize);
+            &packet[4..end]
+        }
+        _ => &packet[..0],
+    }
 }
 
 // One data packet more was dropped.
@@ -71,79 +128,15 @@ fn acl(s: Controller, profile: ControllerRow, pool: &mut [u8], packet: &[u8]) ->
     }
 }
 
-// A packet that does nothing.
-fn ignored(s: Controller) -> Received
-    ensures { λ r. ⌜ (r .state ≡ s) × (r .written ≡ 0) ⌝ }
+// A data packet, which writes no event.
+pub fn data(s: Controller, profile: ControllerRow, pool: &mut [u8], packet: &[u8]) -> Told
+    requires { ⌜ CanStore s profile (now pool) ⌝ }
+    ensures { λ r. ⌜ (r .number ≡ 0) × (r .written ≡ 0) × Delivers profile (now (packet .entry)) (held s (now (pool .entry))) (held (r .state) (now (pool .exit))) ⌝ }
 {
-    Received {
-        state: s,
+    let t = acl(s, profile, pool, packet);
+    Told {
+        number: 0,
+        state: t,
         written: 0,
     }
-}
-
-// A command packet: the parameters are the part of the packet from its fifth octet, as many as its length says. One that is cut
-// short can't be acknowledged by its opcode, and gives no event.
-fn on_command(
-    s: Controller,
-    profile: ControllerRow,
-    opcodes: &[u16],
-    answers: &[u8],
-    address: [u8; 6],
-    random: u64,
-    packet: &[u8],
-    out: &mut [u8],
-) -> Received
-    requires { ⌜ CanCommand s profile (now opcodes) (now answers) (now out) ⌝ }
-    ensures { λ r. ⌜ ((bits : List ℕ) → Carries (profileOf profile (now (opcodes .entry)) (now (answers .entry)) bits) address random (now (packet .entry)) s (r .state) (now (out .entry)) (r .written) (now (out .exit))) ⌝ }
-{
-    let read = Command::parse(packet);
-    match read {
-        CommandRead::Whole(c) => {
-            let op = c.opcode;
-            let end = (c.len as usize) + 4;
-            let p = &packet[4..end];
-            let r = command::command(s, profile, opcodes, answers, address, random, op, p, out);
-            let t = r.state;
-            Received {
-                state: t,
-                written: r.written,
-            }
-        }
-        CommandRead::ShortHeader => ignored(s),
-        CommandRead::NotCommand => ignored(s),
-        CommandRead::ShortParameters => ignored(s),
-    }
-}
-
-// Receives a packet. A command writes its answer to the front of out; random is what Rand returns. A packet of another kind, and
-// the empty one, does nothing.
-pub fn on_packet(
-    s: Controller,
-    profile: ControllerRow,
-    opcodes: &[u16],
-    answers: &[u8],
-    pool: &mut [u8],
-    address: [u8; 6],
-    random: u64,
-    packet: &[u8],
-    out: &mut [u8],
-) -> Received
-    requires { ⌜ CanReceive s profile (now opcodes) (now answers) (now pool) (now out) ⌝ }
-    ensures { λ r. ⌜ ((bits : List ℕ) → Accepted (profileOf profile (now (opcodes .entry)) (now (answers .entry)) bits) (onPacket address random (now (packet .entry))) (held s (now (pool .entry))) (held (r .state) (now (pool .exit))) (events 0 (r .written) (now (out .entry)) (now (out .exit)))) ⌝ }
-{
-    if packet.len() == 0 {
-        return ignored(s);
-    }
-    let kind = packet[0];
-    if kind == H4_COMMAND {
-        return on_command(s, profile, opcodes, answers, address, random, packet, out);
-    }
-    if kind == H4_ACL {
-        let t = acl(s, profile, pool, packet);
-        return Received {
-            state: t,
-            written: 0,
-        };
-    }
-    ignored(s)
 }

@@ -2,7 +2,6 @@
 ghost use mathlib.Core.Path.{_≡_};
 ghost use mathlib.Core.List.{[], _∷_, _++_};
 ghost use Prim.Native.Nat.{_≤_};
-ghost use lib.ListN.{drop};
 ghost use Rattle.octets.specs.Octets.{le};
 ghost use Rattle.state.specs.State.{remember as remembered};
 ghost use Rattle.state.specs.State.{answersOf, countCommand, countUnknown, countPacket, countDropped};
@@ -17,31 +16,16 @@ pub fn remember(recent: Recent, op: u16, status: u8) -> Recent
     let n = recent.count;
     let low = (op % 256) as u8;
     let high = (op / 256 % 256) as u8;
-    if n < 32 {
-        let mut octets = recent.octets;
-        octets::put(&mut octets, n * 3, &[low, high, status]);
-        return Recent {
-            octets,
-            count: n + 1,
-        };
-    }
+    let kept = octets::lesser(n, 31);
+    let from = 3 * (n - kept);
     let before = recent.octets;
-    let mut octets = without_first(before);
-    octets::put(&mut octets, 93, &[low, high, status]);
-    Recent { octets, count: 32 }
-}
-
-// The answers without the first; the last three octets stay.
-fn without_first(octets: [u8; 96]) -> [u8; 96]
-    ensures { λ r. ⌜ r ≡ drop 3 octets ++ drop 93 octets ⌝ }
-{
-    let mut out = octets;
-    let mut i = 0;
-    while i < 93 {
-        out[i] = octets[i + 3];
-        i += 1;
+    let mut octets = before;
+    let end = octets::put(&mut octets, 0, &before[from..3 * n]);
+    octets::put(&mut octets, end, &[low, high, status]);
+    Recent {
+        octets,
+        count: kept + 1,
     }
-    out
 }
 
 impl Counters {

@@ -1,24 +1,33 @@
 -- From what a call promises to what is written of it: the number, the octets and the state are those of the definition's answer.
--- For the functions of `asking`.
+-- For the functions of `asking` and `trial`.
 use mathlib.Core.Path.{_≡_, refl, sym, ap, _∙_}
 use Prim.Native.Nat.{ℕ, _+_, _≤_, _<_}
 use native.Mathlib.Omega.{arith}
 use mathlib.Core.List.{List, [], _∷_, _++_, append-assoc}
+use mathlib.Core.Bool.{Bool}
 use lib.Dec.{eqb}
-use lib.ListN.{length, take, drop, length-append}
+use lib.ListN.{length, take, drop, getD, length-append}
 use lib.Seq.{length-take-le, take-append-le, take-take, drop-at}
 use borrow.Author.Tests.{eqb-true, eqb-false, ne-eqb}
 use borrow.Table.Steps.{cases}
 use Rattle.octets.specs.Octets.{splice, Put, le}
 use Rattle.octets.proofs.Writing.{put-front, put-long}
+use Rattle.links.specs.declared.DisconnectReason.{DisconnectReason}
+use Rattle.links.specs.declared.DisconnectReason.the-variants as reason
+use Rattle.links.specs.Links.{has, freeHandle, inUse}
+use Rattle.links.specs.Look.{terminatingOf}
 use Rattle.profile.specs.declared.ControllerRow.{ControllerRow}
-use Rattle.state.specs.State.{Model}
+use Rattle.profile.specs.Profile.{Limits}
+use Rattle.profile.proofs.Limits.{limits-within}
+use Rattle.state.specs.State.{Model, view}
+use Rattle.state.specs.Holding.{StateHolds}
 use Rattle.state.specs.declared.Controller.{Controller}
 use Rattle.state.proofs.Holding.{state-tested}
 use Rattle.calls.specs.Packets.{Profile}
-use Rattle.calls.specs.Calls.{Call, Held, held, modelOf, replyTo, takenBy}
-use Rattle.calls.specs.Gives.{Answer, Gives, GivesAnyPool, plain, events}
-use Rattle.trials.specs.Trials.{Lent, lent, roomOf, numberOf, answerTo}
+use Rattle.calls.specs.Calls.{Call, Held, held, modelOf, firstNo, replyTo, takenBy}
+use Rattle.calls.specs.Gives.{Answer, Gives, GivesAnyPool, Finds, plain, events}
+use Rattle.trials.specs.Trials.{Lent, lent, roomOf, numberOf, answerTo, reasonOctets, found}
+use Rattle.trials.specs.Dump.{flag}
 use Rattle.trials.specs.Running.{Running, Answers, CanAnswer, CanPut, AnswersAny, answerOctets}
 
 -- a number is 0 or not
@@ -120,6 +129,30 @@ changed-answers gives can same room wrote n opcodes answered bits pool packets p
     answers-held (lent (length pool) n packets) (gives pool opcodes answered bits) same
     (record { limits = can .limits; together = can .together; places = places })
     (sym (room (lent (length pool) n packets))) refl refl wrote
+
+-- ---- queries
+
+-- a query of a state that holds together is answered
+pub query-answers : {A : Type 0} {k : ControllerRow} {s : Controller} {sought : Model → A} {none : A} {number : ℕ} {answer : A}
+    → Finds k s sought none number answer → Limits k → StateHolds s k → (size : ℕ) (pool : List ℕ) → answer ≡ sought (view s size pool)
+unfolding firstNo
+query-answers {k = k} {s} finds limits holds = finds .accepted (finds .asked ∙ rw (limits-within k limits, state-tested s k holds))
+
+-- both octets of a reason
+reason-parts : (w : DisconnectReason) (k l : List ℕ)
+    → getD (reasonOctets w) 0 0 ∷ getD (reasonOctets w) 1 0 ∷ k ++ l ≡ reasonOctets w ++ k ++ l
+reason-parts reason.Nothing k l = refl
+reason-parts (reason.Reason r) k l = refl
+
+-- the queries' answers, written octet by octet
+pub found-is : (h : ℕ) (m : Model) {connected : Bool} {waits : DisconnectReason} {first : ℕ} {octets : List ℕ} {free used : ℕ}
+    → connected ≡ has h (m .links .connections) → first ≡ flag connected → waits ≡ terminatingOf h (m .links .connections)
+    → octets ≡ reasonOctets waits → free ≡ freeHandle (m .links .connections) → used ≡ inUse (m .links)
+    → first ∷ getD octets 0 0 ∷ getD octets 1 0 ∷ le 2 free ++ le 2 used ≡ found h m
+found-is h m {octets = octets} e flagged f told g i =
+    let waits : DisconnectReason = terminatingOf h (m .links .connections) in
+    let two : octets ≡ reasonOctets waits = told ∙ ap reasonOctets f in
+    rw (flagged, e, two, g, i) (ap (λ (l : List ℕ). flag (has h (m .links .connections)) ∷ l) (reason-parts waits (le 2 (freeHandle (m .links .connections))) (le 2 (inUse (m .links)))))
 
 -- ---- what is written
 

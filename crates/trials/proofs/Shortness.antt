@@ -1,4 +1,5 @@
--- How many octets a call's answer has at most: 71 of events, and 32 packets of 1,024 octets each. For the functions of `asking`.
+-- How many octets a call's answer has at most: 71 of events, and 32 packets of 1,024 octets each. For the functions of `asking`
+-- and `trial`.
 use mathlib.Core.Path.{_≡_, refl, ap}
 use Prim.Native.Nat.{ℕ, _+_, _*_, _≤_}
 use native.Mathlib.Omega.{arith}

@@ -4,14 +4,14 @@ use mathlib.Core.Path.{_≡_, refl, sym, ap, _∙_}
 use Prim.Native.Nat.{ℕ, zero, suc, _+_, _-_, _*_, _%_, _≤_, _<_}
 use native.Mathlib.Omega.{arith}
 use native.Mathlib.Nat.{add-zero, sub-zero}
-use mathlib.Core.List.{List, [], _++_, append-assoc, append-nil}
+use mathlib.Core.List.{List, [], _∷_, _++_, append-assoc, append-nil}
 use mathlib.Core.Bool.{true, false, and-eq-true-iff}
 use lib.Dec.{leb, eqb}
 use lib.ListN.{length, take, drop, length-drop}
 use lib.Seq.{take-all, getD-drop, drop-drop, length-take-le}
 use borrow.Author.Tests.{le-leb, lt-leb, leb-true, eqb-true, eqb-false, ne-eqb}
 use borrow.Table.Steps.{cases}
-use Rattle.octets.specs.Octets.{Put, octet, word}
+use Rattle.octets.specs.Octets.{Put, octet, word, le}
 use Rattle.octets.proofs.Writing.{put-then, put-none, put-long}
 use Rattle.profile.specs.declared.ControllerRow.{ControllerRow}
 use Rattle.profile.specs.Profile.{withinLimits}
@@ -19,12 +19,16 @@ use Rattle.profile.proofs.Limits.{within-limits}
 use Rattle.state.specs.State.{Model, defaultModel}
 use Rattle.state.specs.Holding.{placeSize}
 use Rattle.state.specs.declared.Controller.{Controller}
-use Rattle.calls.specs.Calls.{Held, held, modelOf}
-use Rattle.calls.specs.Gives.{Starts, profileOf}
+use Rattle.calls.specs.Calls.{Held, held, modelOf, onPacket}
+use Rattle.calls.specs.Gives.{Starts, Gives, profileOf}
+use Rattle.calls.specs.Gives.{events as eventsAnswer}
 use Rattle.trials.specs.Setup.{part, controllerOf, addressOf, randomOf, profileFrom, rowCount, isSetup}
-use Rattle.trials.specs.Trials.{Wish, asks, shows, stops, atWish, wishOf, recordLength, Lent, lent, answerTo, shown, trials, runTrials}
-use Rattle.trials.specs.Running.{Running, AnswersWish, IsSetUp, isWish, wishLength}
-use Rattle.trials.proofs.Wishing.{Asking, asking, wish-stops, record-some}
+use Rattle.trials.specs.Trials.{Wish, asks, shows, finds, stops, atWish, wishOf, recordLength, Lent, lent, answerTo, shown, trials, runTrials}
+use Rattle.trials.specs.Trials.{found as foundOctets}
+use Rattle.trials.specs.Running.{Running, AnswersWish, CanPut, IsSetUp, isWish, wishLength}
+use Rattle.trials.proofs.Answering.{can-put, answers-held, put-front-of}
+use Rattle.trials.proofs.Shortness.{Sized, packet-short}
+use Rattle.trials.proofs.Wishing.{Asking, asking, wish-packet, wish-stops, record-some}
 
 -- ---- one record
 
@@ -36,6 +40,7 @@ goesOn f setup buffers room m rest w =
     answerTo (profileFrom setup) buffers c m .octets
     ++ trials f setup buffers (room - length (answerTo (profileFrom setup) buffers c m .octets)) (answerTo (profileFrom setup) buffers c m .state) rest)
     (shown m ++ trials f setup buffers (room - length (shown m)) m rest)
+    (λ h. foundOctets h m ++ trials f setup buffers (room - length (foundOctets h m)) m rest)
     []
 
 pub record Stepped (f : ℕ) (setup : List ℕ) (buffers : Lent) (room : ℕ) (s t : Held) (rest : List ℕ) (w : Wish) (out : List ℕ) (at r : ℕ) (after : List ℕ) : Type 0 where
@@ -50,6 +55,7 @@ stepped : {f : ℕ} {setup : List ℕ} {buffers : Lent} {room : ℕ} {s t : Held
     → Stepped f setup buffers room s t rest w out at r after
 stepped run (asks c) a = record { octets = _; written = a .written; running = a .running; goes = rw (a .viewed) }
 stepped {s = s} run shows a = record { octets = _; written = a .1; running = rw (a .0) run; goes = rw (a .0) }
+stepped {s = s} run (finds h) a = record { octets = _; written = a .1; running = rw (a .0) run; goes = rw (a .0) }
 stepped run stops a = absurd a
 
 -- ---- the definition's turns
@@ -95,6 +101,7 @@ module _ (setup : List ℕ) (buffers : Lent) (room : ℕ) (m : Model) (l : List 
 pub record Known (setup : List ℕ) (k : ControllerRow) (opcodes answers bits address : List ℕ) (random : ℕ) : Type 0 where
   pub profile : profileOf k opcodes answers bits ≡ profileFrom setup
   pub controller : k ≡ controllerOf setup
+  pub least : 126 ≤ length setup
   pub addressed : address ≡ addressOf setup
   pub drawn : random ≡ randomOf setup
 
@@ -157,6 +164,7 @@ module _ {setup opcodes answers bits pool : List ℕ} (is : IsSetUp setup opcode
     known = record {
       profile = rw (e, is .opcodesRead, is .answersRead, is .bitsRead);
       controller = e;
+      least = tested (is .told) .least;
       addressed = f;
       drawn = g;
     };
@@ -199,6 +207,27 @@ module _ {setup opcodes answers bits input : List ℕ} {k : ControllerRow} {addr
   pub ends-none : {n : ℕ} → n ≡ wishLength (drop i input) → n ≡ 0
       → Put out₀ 0 (trials (length input) setup buffers (length out₀) defaultModel input) at out
   ends-none e z = ends (trials-none setup buffers (length out₀ - at) _ (drop i input) (t .left) (sym z ∙ e))
+
+  -- the arrays read of the setup have their lengths
+  sized : Sized k
+  unfolding controllerOf
+  sized =
+      let all : Sized (controllerOf setup) =
+      record {
+        commands = length-take-le 64 (drop 8 setup) (omega (arith, t .known .least, length-drop 8 setup));
+        features = length-take-le 8 (drop 72 setup) (omega (arith, t .known .least, length-drop 72 setup));
+        states = length-take-le 8 (drop 88 setup) (omega (arith, t .known .least, length-drop 88 setup));
+      } in
+      rw (t .known .controller) all
+
+  six : length address ≡ 6
+  six = rw (t .known .addressed) (length-take-le 6 (drop 112 setup) (omega (arith, t .known .least, length-drop 112 setup)))
+
+  -- what a packet's call wrote has room
+  pub packet-can : {p : List ℕ} {u : Controller} {pool₁ events₁ : List ℕ} {number written : ℕ} → 40960 ≤ length out - at
+      → Gives (profileOf k opcodes answers bits) (onPacket address random p) (held s pool) (held u pool₁) (eventsAnswer number written events events₁)
+      → CanPut written events₁ out at
+  packet-can room gives = can-put gives (packet-short _ sized _ six _ _ _) (omega (arith, room, at-within))
 
   -- the record at index i asks for something
   module _ {n : ℕ} (e : n ≡ wishLength (drop i input)) (some : n ≡ 0 → ⊥) where
@@ -260,3 +289,18 @@ module _ {setup opcodes answers bits input : List ℕ} {k : ControllerRow} {addr
               ∙ rw (rest, drop-drop))
               ∙ sym (append-assoc (t .written) (step .octets) _);
         }
+
+    -- a packet's record: its call was made, and what it wrote is the answer
+    pub packet-turns : {u : Controller} {pool₁ events₁ out₁ : List ℕ} {number written r : ℕ} → 40960 ≤ length out - at → octet input i ≡ 0
+        → Gives (profileOf k opcodes answers bits) (onPacket address random (part input (i + 3) (i + n - (i + 3)))) (held s pool) (held u pool₁)
+        (eventsAnswer number written events events₁)
+        → Put out at (number ∷ 0 ∷ le 2 (length (take written events₁)) ++ take written events₁) r out₁
+        → length pool₁ ≡ length pool → length events₁ ≡ length events
+        → Trialing setup opcodes answers bits input k address random pool₀ events₀ packets₀ out₀ pool₁ events₁ packets out₁ u r (i + n)
+    packet-turns {events₁ = events₁} {written = written} room kind gives put poolSame eventsSame =
+        let p : List ℕ = part input (i + 3) (i + n - (i + 3)) in
+        let wrote = put-front-of written events₁ (packet-can room gives .within) put in
+        turns room
+        (rw (kind, wish-packet address random p)
+        (answers-held (lent (length pool) (length events) (length packets)) gives refl (t .running) refl refl poolSame (refl, wrote)))
+        poolSame eventsSame refl

@@ -16,7 +16,7 @@ use Rattle.calls.specs.Calls.{Call, onPacket, takeTransmit, openConnection, com
 use Rattle.calls.specs.Calls.{held}
 use Rattle.calls.specs.Gives.{profileOf}
 use Rattle.trials.specs.Setup.{part}
-use Rattle.trials.specs.Trials.{Wish, asks, shows, stops, wishOf, recordLength, lent}
+use Rattle.trials.specs.Trials.{Wish, asks, shows, finds, stops, wishOf, recordLength, lent}
 use Rattle.trials.specs.Running.{isWish, wishLength, AnswersAny, AnswersNotice, AnswersWish}
 
 -- ---- kinds
@@ -72,6 +72,10 @@ module _ (address : List ℕ) (random : ℕ) (p : List ℕ) where
   unfolding wishOf
   wish-show e = rw e
 
+  pub wish-find : length p ≡ 2 → wishOf address random 12 p ≡ finds (word p 0)
+  unfolding wishOf
+  wish-find e = rw e
+
   -- any other record
   pub wish-stops : (kind : ℕ) → isWish kind (length p) ≡ false → wishOf address random kind p ≡ stops
   unfolding wishOf isWish
@@ -88,14 +92,19 @@ module _ (address : List ℕ) (random : ℕ) (p : List ℕ) where
       (λ e8. cases (eqb kind 9) (λ e. rw (eqb-true kind 9 e, rw (eqb-true kind 9 e) at h))
       (λ e9. cases (eqb kind 10) (λ e. rw (eqb-true kind 10 e, rw (eqb-true kind 10 e) at h))
       (λ e10. cases (eqb kind 11) (λ e. rw (eqb-true kind 11 e, rw (eqb-true kind 11 e) at h))
-      (λ e11. rw (e0, e1, e2, e3, e4, e5, e6, e7, e8, e9, e10, e11)))))))))))))
+      (λ e11. cases (eqb kind 12) (λ e. rw (eqb-true kind 12 e, rw (eqb-true kind 12 e) at h))
+      (λ e12. rw (e0, e1, e2, e3, e4, e5, e6, e7, e8, e9, e10, e11, e12))))))))))))))
 
 -- a kind that is none of the first ones
 pub above : {kind : ℕ} (n : ℕ) → n ≤ kind → (kind ≡ n → ⊥) → n + 1 ≤ kind
 above n low other = omega arith
 
--- there are no kinds past 11
-pub wish-past : (kind n : ℕ) → 11 < kind → isWish kind n ≡ false
+-- and none of the last ones
+pub below : {kind : ℕ} (n : ℕ) → kind ≤ n + 1 → (kind ≡ n + 1 → ⊥) → kind ≤ n
+below n high other = omega arith
+
+-- there are no kinds past 12
+pub wish-past : (kind n : ℕ) → 12 < kind → isWish kind n ≡ false
 unfolding isWish
 wish-past kind n h =
     rw (
@@ -111,12 +120,13 @@ wish-past kind n h =
       ne-eqb kind 9 (λ e. omega arith),
       ne-eqb kind 10 (λ e. omega arith),
       ne-eqb kind 11 (λ e. omega arith),
+      ne-eqb kind 12 (λ e. omega arith),
     )
 
-pub wish-kind : (kind n : ℕ) → isWish kind n ≡ true → kind ≤ 11
+pub wish-kind : (kind n : ℕ) → isWish kind n ≡ true → kind ≤ 12
 wish-kind kind n h =
-    cases (leb kind 11) (λ e. leb-true kind 11 e)
-    (λ e. absurd (true≢false (sym h ∙ wish-past kind n (leb-false kind 11 e))))
+    cases (leb kind 12) (λ e. leb-true kind 12 e)
+    (λ e. absurd (true≢false (sym h ∙ wish-past kind n (leb-false kind 12 e))))
 
 -- a notice's answer is the record's
 module _ {k : ControllerRow} {events : ℕ} {s t : Controller} {out : List ℕ} {at r : ℕ} {after : List ℕ} {w : Wish} where

@@ -14,7 +14,7 @@ use Rattle.calls.specs.Packets.{Profile, Reply}
 use Rattle.calls.specs.Calls.{Call, Held, held, modelOf}
 use Rattle.calls.specs.Gives.{profileOf}
 use Rattle.trials.specs.Setup.{rowsOf, isSetup}
-use Rattle.trials.specs.Trials.{Wish, asks, shows, stops, Lent, lent, recordLength, answerTo, shown}
+use Rattle.trials.specs.Trials.{Wish, asks, shows, finds, stops, Lent, lent, recordLength, answerTo, shown, found}
 
 -- between two records: the profile is within its limits, the state holds together and the pool has its places
 pub record Running (k : ControllerRow) (s : Held) : Type 0 where
@@ -73,7 +73,8 @@ isWish kind n =
     (cond (eqb kind 9) (eqb n 3)
     (cond (eqb kind 10) (eqb n 0)
     (cond (eqb kind 11) (eqb n 0)
-    false)))))))))))
+    (cond (eqb kind 12) (eqb n 2)
+    false))))))))))))
 
 -- the octets of the record at the front, 0 where there is none that asks for something
 unfoldable pub wishLength : List ℕ → ℕ
@@ -83,6 +84,7 @@ wishLength l = cond (isWish (octet l 0) (word l 1)) (recordLength l) 0
 abbrev pub AnswersWish : Profile → Lent → Wish → Held → Held → List ℕ → ℕ → ℕ → List ℕ → Type 0
 AnswersWish g buffers (asks c) s t out at r after = Answers g buffers c s t out at r after
 AnswersWish g buffers shows s t out at r after = (t ≡ s) × Put out at (shown (modelOf g s)) r after
+AnswersWish g buffers (finds h) s t out at r after = (t ≡ s) × Put out at (found h (modelOf g s)) r after
 AnswersWish g buffers stops s t out at r after = ⊥
 
 -- the same of a notice's record, which asks for a call

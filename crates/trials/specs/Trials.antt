@@ -6,11 +6,15 @@ use mathlib.Core.Bool.{Bool, true, cond, not, _&&_}
 use lib.Dec.{leb, eqb}
 use lib.ListN.{length, take, drop}
 use Rattle.octets.specs.Octets.{octet, word, le}
+use Rattle.links.specs.declared.DisconnectReason.{DisconnectReason}
+use Rattle.links.specs.declared.DisconnectReason.the-variants as reason
+use Rattle.links.specs.Links.{has, freeHandle, inUse}
+use Rattle.links.specs.Look.{terminatingOf}
 use Rattle.state.specs.State.{Model, defaultModel}
 use Rattle.calls.specs.Packets.{Profile, Reply, reply}
 use Rattle.calls.specs.Calls.{Call, onPacket, takeTransmit, openConnection, completed, dropInFlight, acceptConnection, peerUpdate, requestLtk, completeDisconnect, remoteDisconnect, advertisingTimeout, firstNo, questionsOf, replyTo, takenBy}
 use Rattle.trials.specs.Setup.{part, profileFrom, addressOf, randomOf, isSetup}
-use Rattle.trials.specs.Dump.{stateOctets}
+use Rattle.trials.specs.Dump.{flag, stateOctets}
 
 -- ---- records: a kind, how many octets follow (2), and those
 
@@ -18,13 +22,15 @@ use Rattle.trials.specs.Dump.{stateOctets}
 pub data Wish : Type 0 where
   asks : Call → Wish
   shows : Wish  -- the whole state
+  finds : ℕ → Wish  -- what the queries find, of a handle where they take one
   stops : Wish  -- no record: the run ends
 
 -- by cases on a wish
-abbrev pub atWish : {A : Type 0} → Wish → (Call → A) → A → A → A
-atWish (asks c) call show stop = call c
-atWish shows call show stop = show
-atWish stops call show stop = stop
+abbrev pub atWish : {A : Type 0} → Wish → (Call → A) → A → (ℕ → A) → A → A
+atWish (asks c) call show find stop = call c
+atWish shows call show find stop = show
+atWish (finds h) call show find stop = find h
+atWish stops call show find stop = stop
 
 -- a kind with so many octets, exactly
 abbrev pub isKind : ℕ → ℕ → ℕ → List ℕ → Bool
@@ -45,7 +51,8 @@ wishOf address random kind p =
     (cond (isKind 9 3 kind p) (asks (remoteDisconnect (word p 0) (octet p 2)))
     (cond (isKind 10 0 kind p) (asks advertisingTimeout)
     (cond (isKind 11 0 kind p) shows
-    stops)))))))))))
+    (cond (isKind 12 2 kind p) (finds (word p 0))
+    stops))))))))))))
 
 -- the octets of the record at the front, 0 where it isn't whole
 unfoldable pub recordLength : List ℕ → ℕ
@@ -91,6 +98,18 @@ answerTo g buffers c m =
 abbrev pub shown : Model → List ℕ
 shown m = le 2 (length (stateOctets m)) ++ stateOctets m
 
+-- whether a host's Disconnect of the link waits for the peer, and its reason
+abbrev pub reasonOctets : DisconnectReason → List ℕ
+reasonOctets reason.Nothing = 0 ∷ 0 ∷ []
+reasonOctets (reason.Reason r) = 1 ∷ r ∷ []
+
+-- the queries' answer, 7 octets: whether a link has the handle, its Disconnect that waits (2), the lowest free handle (2), and how
+-- many buffers are in use (2)
+abbrev pub found : ℕ → Model → List ℕ
+found h m =
+    flag (has h (m .links .connections)) ∷ reasonOctets (terminatingOf h (m .links .connections))
+    ++ le 2 (freeHandle (m .links .connections)) ++ le 2 (inUse (m .links))
+
 -- ---- a run
 
 -- what is answered to the first n records of some octets, from a state on, into a buffer with so many octets left. The run ends
@@ -105,6 +124,7 @@ trials (suc n) setup buffers room m l =
     ++ trials n setup buffers (room - length (answerTo (profileFrom setup) buffers c m .octets)) (answerTo (profileFrom setup) buffers c m .state)
     (drop (recordLength l) l))
     (shown m ++ trials n setup buffers (room - length (shown m)) m (drop (recordLength l) l))
+    (λ h. found h m ++ trials n setup buffers (room - length (found h m)) m (drop (recordLength l) l))
     [])
     []
 

@@ -7,19 +7,21 @@ ghost use Prim.Native.Nat.{ℕ, _+_, _≤_};
 ghost use lib.Dec.{eqb};
 ghost use lib.ListN.{length};
 ghost use Rattle.octets.specs.Octets.{Put, octet, word, le};
+ghost use Rattle.profile.specs.Profile.{Limits};
 ghost use Rattle.state.specs.State.{view};
-ghost use Rattle.state.specs.Holding.{placeSize};
+ghost use Rattle.state.specs.Holding.{StateHolds, placeSize};
 ghost use Rattle.calls.specs.Calls as call;
 ghost use Rattle.calls.specs.Calls.{held};
 ghost use Rattle.calls.specs.Gives.{profileOf};
 ghost use Rattle.trials.specs.Setup.{part};
-ghost use Rattle.trials.specs.Trials.{lent, shown};
+ghost use Rattle.trials.specs.Trials.{lent, shown, reasonOctets, found};
 ghost use Rattle.trials.specs.Running.{Answers, CanAnswer, CanPut, CanGo, AnswersAny, answerOctets};
 use crate::dump;
 use crate::setup;
 use controller::Changed;
 use controller::Told;
 use controller::Took;
+use links::DisconnectReason;
 use profile::ControllerRow;
 use state::Controller;
 
@@ -31,7 +33,7 @@ pub struct Answered {
 
 // Writes a call's answer into out from index at, and gives the index after it: the number, how many packets were taken, how many
 // octets of events or packets there are, and those.
-fn put_answer(number: u8, taken: u8, octets: &[u8], out: &mut [u8], at: usize) -> usize
+pub fn put_answer(number: u8, taken: u8, octets: &[u8], out: &mut [u8], at: usize) -> usize
     requires { ⌜ at + 4 + length (now octets) ≤ length (now out) ⌝ }
     ensures { λ r. ⌜ Put (now (out .entry)) at (number ∷ taken ∷ le 2 (length (now (octets .entry))) ++ now (octets .entry)) r (now (out .exit)) ⌝ }
 {
@@ -72,39 +74,6 @@ fn took(r: Took, packets: &[u8], out: &mut [u8], at: usize) -> Answered
     let next = put_answer(r.number, taken, &packets[..written], out, at);
     let state = r.state;
     Answered { state, next }
-}
-
-// Kind 0: a packet of the host.
-pub fn packet(
-    profile: ControllerRow,
-    opcodes: &[u16],
-    answers: &[u8],
-    bits: &[u16],
-    s: Controller,
-    pool: &mut [u8],
-    address: [u8; 6],
-    random: u64,
-    p: &[u8],
-    events: &mut [u8],
-    out: &mut [u8],
-    at: usize,
-) -> Answered
-    requires { ⌜ CanGo profile (held s (now pool)) (now out) at ⌝ }
-    ensures { λ r. ⌜ ((packets : ℕ) → Answers (profileOf profile (now (opcodes .entry)) (now (answers .entry)) (now (bits .entry))) (lent (length (now (pool .entry))) (length (now (events .entry))) packets) (call.onPacket address random (now (p .entry))) (held s (now (pool .entry))) (held (r .state) (now (pool .exit))) (now (out .entry)) at (r .next) (now (out .exit))) ⌝ }
-{
-    let r = controller::on_packet(
-        profile,
-        opcodes,
-        answers,
-        bits,
-        s,
-        pool,
-        address,
-        random,
-        p,
-        events,
-    );
-    told(r, events, out, at)
 }
 
 // Kind 1: packets taken for the air.
@@ -324,5 +293,50 @@ pub fn show(
     let next = dump::dump(s, profile, pool, out, at + 2);
     let n = next - at - 2;
     octets::put(out, at, &[(n % 256) as u8, (n / 256 % 256) as u8]);
+    Answered { state: s, next }
+}
+
+// Whether a Disconnect waits for the peer, and its reason.
+fn reason_octets(waits: DisconnectReason) -> [u8; 2]
+    ensures { λ r. ⌜ r ≡ reasonOctets waits ⌝ }
+{
+    match waits {
+        DisconnectReason::Reason(reason) => [1, reason],
+        DisconnectReason::Nothing => [0, 0],
+    }
+}
+
+// What the four queries find, the first two of this handle.
+fn found_octets(profile: ControllerRow, s: Controller, handle: u16) -> [u8; 7]
+    requires { ⌜ Limits profile × StateHolds s profile ⌝ }
+    ensures { λ r. ⌜ ((size : ℕ) (pool : List ℕ) → r ≡ found handle (view s size pool)) ⌝ }
+{
+    let connection = controller::has_connection(profile, s, handle);
+    let waits = controller::terminating(profile, s, handle);
+    let waiting = waits.reason;
+    let reason = reason_octets(waiting);
+    let free = controller::free_handle(profile, s);
+    let lowest = free.handle;
+    let used = controller::acl_buffers_in_use(profile, s);
+    let count = used.count;
+    [
+        dump::flag_of(connection.connected),
+        reason[0],
+        reason[1],
+        (lowest % 256) as u8,
+        (lowest / 256 % 256) as u8,
+        (count % 256) as u8,
+        (count / 256 % 256) as u8,
+    ]
+}
+
+// Kind 12: what the queries find.
+pub fn find(profile: ControllerRow, s: Controller, p: &[u8], out: &mut [u8], at: usize) -> Answered
+    requires { ⌜ CanAnswer profile s (now out) at × (length (now p) ≡ 2) ⌝ }
+    ensures { λ r. ⌜ (r .state ≡ s) × ((size : ℕ) (pool : List ℕ) → Put (now (out .entry)) at (found (word (now (p .entry)) 0) (view s size pool)) (r .next) (now (out .exit))) ⌝ }
+{
+    let handle = octets::word_at(p, 0);
+    let found = found_octets(profile, s, handle);
+    let next = octets::put(out, at, &found);
     Answered { state: s, next }
 }

@@ -31,7 +31,7 @@ use state::Scanning;
 use state::Settings;
 
 // 1 for yes, 0 for no.
-fn flag_of(b: bool) -> u8
+pub fn flag_of(b: bool) -> u8
     ensures { λ r. ⌜ r ≡ flag b ⌝ }
 {
     if b { 1 } else { 0 }

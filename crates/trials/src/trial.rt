@@ -14,6 +14,7 @@ use crate::asking;
 use crate::asking::Answered;
 use crate::record;
 use crate::setup;
+use controller::on_packet;
 use profile::ControllerRow;
 use state::Controller;
 
@@ -43,16 +44,11 @@ fn notice(
     }
 }
 
-// What a record asks for, p being what follows its length.
+// What a record of another kind than 0 asks for, p being what follows its length.
 fn answer(
     profile: ControllerRow,
-    opcodes: &[u16],
-    answers: &[u8],
-    bits: &[u16],
     s: Controller,
-    pool: &mut [u8],
-    address: [u8; 6],
-    random: u64,
+    pool: &[u8],
     kind: u8,
     p: &[u8],
     events: &mut [u8],
@@ -60,26 +56,13 @@ fn answer(
     out: &mut [u8],
     at: usize,
 ) -> Answered
-    requires { ⌜ CanGo profile (held s (now pool)) (now out) at × (isWish kind (length (now p)) ≡ true) ⌝ }
-    ensures { λ r. ⌜ AnswersWish (profileOf profile (now (opcodes .entry)) (now (answers .entry)) (now (bits .entry))) (lent (length (now (pool .entry))) (length (now (events .entry))) (length (now (packets .entry)))) (wishOf address random kind (now (p .entry))) (held s (now (pool .entry))) (held (r .state) (now (pool .exit))) (now (out .entry)) at (r .next) (now (out .exit)) ⌝ }
+    requires { ⌜ CanGo profile (held s (now pool)) (now out) at × ((isWish kind (length (now p)) ≡ true) × (1 ≤ kind)) ⌝ }
+    ensures { λ r. ⌜ ((opcodes answers bits address : List ℕ) (random : ℕ) → AnswersWish (profileOf profile opcodes answers bits) (lent (length (now (pool .entry))) (length (now (events .entry))) (length (now (packets .entry)))) (wishOf address random kind (now (p .entry))) (held s (now (pool .entry))) (held (r .state) (now (pool .entry))) (now (out .entry)) at (r .next) (now (out .exit))) ⌝ }
 {
     match kind {
-        0 => asking::packet(
-            profile,
-            opcodes,
-            answers,
-            bits,
-            s,
-            pool,
-            address,
-            random,
-            p,
-            events,
-            out,
-            at,
-        ),
         1 => asking::take(profile, s, pool, p, packets, out, at),
         11 => asking::show(profile, s, pool, out, at),
+        12 => asking::find(profile, s, p, out, at),
         _ => notice(profile, s, kind, p, events, out, at),
     }
 }
@@ -101,6 +84,7 @@ fn is_wish(kind: u8, n: usize) -> bool
         9 => n == 3,
         10 => n == 0,
         11 => n == 0,
+        12 => n == 2,
         _ => false,
     }
 }
@@ -119,7 +103,8 @@ fn wish_length(input: &[u8]) -> usize
     n
 }
 
-// The answers of a run whose setup's rows are these.
+// The answers of a run whose setup's rows are these. A packet's record, of kind 0, is answered here and not by a function of its own,
+// so that the state is handed from call to call and not through an `Answered`; own is the public address.
 fn answer_all(
     setup: &[u8],
     opcodes: &[u16],
@@ -134,8 +119,8 @@ fn answer_all(
     requires { ⌜ IsSetUp (now setup) (now opcodes) (now answers) (now bits) (now pool) ⌝ }
     ensures { λ r. ⌜ Put (now (out .entry)) 0 (trials (length (now (input .entry))) (now (setup .entry)) (lent (length (now (pool .entry))) (length (now (events .entry))) (length (now (packets .entry)))) (length (now (out .entry))) defaultModel (now (input .entry))) r (now (out .exit)) ⌝ }
 {
-    let profile = setup::controller_of(setup);
-    let address = setup::address_of(setup);
+    let row = setup::controller_of(setup);
+    let own = setup::address_of(setup);
     let random = setup::random_of(setup);
     let mut s = controller::default_state();
     let mut at = 0;
@@ -145,26 +130,16 @@ fn answer_all(
         if n == 0 {
             return at;
         }
-        let kind = input[i];
         let p = &input[i + 3..i + n];
-        let r = answer(
-            profile,
-            opcodes,
-            answers,
-            bits,
-            s,
-            pool,
-            address,
-            random,
-            kind,
-            p,
-            events,
-            packets,
-            out,
-            at,
-        );
-        s = r.state;
-        at = r.next;
+        if input[i] == 0 {
+            let r = on_packet(row, opcodes, answers, bits, s, pool, own, random, p, events);
+            at = asking::put_answer(r.number, 0, &events[..r.written], out, at);
+            s = r.state;
+        } else {
+            let r = answer(row, s, pool, input[i], p, events, packets, out, at);
+            s = r.state;
+            at = r.next;
+        }
         i += n;
     }
     at

@@ -25,6 +25,9 @@ pub struct Size {
     pub shown_once_in: &'static [usize],
 }
 
+/// Queries are made as often as the state is shown, and where that is seldom, once in so many calls.
+const QUERIES_ONCE_IN: usize = 16;
+
 /// A run as a careful host and link could make it, and one that cares less.
 pub fn trial(random: &mut Random, size: Size) -> Trial {
     let theme = random.pick(&themes::THEMES);
@@ -36,6 +39,9 @@ pub fn trial(random: &mut Random, size: Size) -> Trial {
     prologue(random, &mut world, theme, &mut input);
     for _ in 0..count {
         call(random, &mut world, theme, &mut input);
+        if random.once_in(shown_once_in.min(QUERIES_ONCE_IN)) {
+            put_record(&mut input, kind::QUERIES, &world.notice(random, kind::QUERIES));
+        }
         if random.once_in(shown_once_in) {
             put_record(&mut input, kind::STATE, &[]);
         }

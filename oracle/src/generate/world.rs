@@ -71,7 +71,7 @@ impl World {
         packet
     }
 
-    /// The octets of a notice or a take.
+    /// The octets of a notice, a take or queries.
     pub fn notice(&self, random: &mut Random, kind: u8) -> Vec<u8> {
         let mut out = self.handle(random).to_le_bytes().to_vec();
         match kind {
@@ -87,7 +87,7 @@ impl World {
             }
             kind::KEY_REQUEST => out.extend(random.octets::<10>()),
             kind::REMOTE_DISCONNECT => out.push(random.octet()),
-            kind::COMPLETE_DISCONNECT => {}
+            kind::COMPLETE_DISCONNECT | kind::QUERIES => {}
             _ => out.clear(),
         }
         out

@@ -1,18 +1,23 @@
--- `trials::trial::answer_all` meets its contract: when the loop has come to a record, the answers so far are those before it.
+-- `trials::trial::answer_all` meets its contract: when the loop has come to a record, the answers so far are those before it. A turn
+-- comes from a packet's call or from `answer`, and each has its law.
 use Prim.Native.Nat.{_-_}
 use native.Mathlib.Omega.{arith}
+use mathlib.Core.Logic.{⊎-elim}
+use mathlib.Core.Path.{refl, sym}
 use lib.ListN.{length}
-use Rattle.trials.proofs.Trialing.{Trialing, tested, begins, at-within, from-here, long, ends-none, ends-full, inside, is-wish, turns}
+use lib.Seq.{length-take-le}
+use Rattle.trials.proofs.Answering.{room-of}
+use Rattle.trials.proofs.Trialing.{Trialing, tested, begins, at-within, from-here, long, ends-none, ends-full, inside, is-wish, turns, packet-can, packet-turns}
 use borrow.Author.Needs.{needs}
 use Rattle.trials.proofs.trial.answer_all.Statement.{statement}
 use Rattle.trials.proofs.trial.answer_all.Tie as tie
 
 abbrev Inv-loop : tie.InvT-loop
-Inv-loop setup opcodes answers bits pool₀ events₀ packets₀ input out₀ profile address random s₀ at₀ i₀ pool events packets out s at i =
-    Trialing setup opcodes answers bits input profile address random pool₀ events₀ packets₀ out₀ pool events packets out s at i
+Inv-loop setup opcodes answers bits pool₀ events₀ packets₀ input out₀ row own random s₀ at₀ i₀ pool events packets out s at i =
+    Trialing setup opcodes answers bits input row own random pool₀ events₀ packets₀ out₀ pool events packets out s at i
 
 abbrev μ-loop : tie.MeasureT-loop
-μ-loop setup opcodes answers bits pool₀ events₀ packets₀ input out₀ profile address random s₀ at₀ i₀ pool events packets out s at i =
+μ-loop setup opcodes answers bits pool₀ events₀ packets₀ input out₀ row own random s₀ at₀ i₀ pool events packets out s at i =
     length input - i
 
 controller-of-requires : tie.Need-controller-of-requires Inv-loop μ-loop
@@ -67,100 +72,119 @@ returns c =
     let c4 = c .before .before .before .before in
     let t = c4 .loop .inv in ends-none t (from-here t (c .before .wish-length .ensures)) (c .if1 .taken)
 
-shared-slice-read-kind : tie.Need-shared-slice-read-kind Inv-loop μ-loop
-shared-slice-read-kind c =
-    let t = c .before .before .before .before .before .loop .inv in
-    let e = from-here t (c .before .before .wish-length .ensures) in
-    let some = c .before .if1 .left in
-    let inside-input = inside t e some in
-    search (needs, inside-input .0, inside-input .1)
-
 add-p : tie.Need-add-p Inv-loop μ-loop
 add-p c =
-    let c5 = c .before .before .before .before .before in
-    let c19 = c5 .before .before .before .before .before .before .before .before .before .before .before .before .before .before in
-    let t = c5 .loop .inv in
-    let e = from-here t (c .before .before .wish-length .ensures) in
-    let some = c .before .if1 .left in
+    let s = c .before .before .before .before .before .before .before .before .before .before .before .before .before .before .before .before .before .before in
+    let t = c .before .before .before .before .loop .inv in
+    let e = from-here t (c .before .wish-length .ensures) in
+    let some = c .if1 .left in
     let inside-input = inside t e some in
-    record { fits = omega (arith, inside-input .0, inside-input .1, c19 .good .1 .1 .1 .1 .1 .1 .1 .0 .0) }
+    record { fits = omega (arith, inside-input .0, inside-input .1, s .good .1 .1 .1 .1 .1 .1 .1 .0 .0) }
 
 add-p-2 : tie.Need-add-p-2 Inv-loop μ-loop
 add-p-2 c =
-    let c5 = c .before .before .before .before .before in
-    let c19 = c5 .before .before .before .before .before .before .before .before .before .before .before .before .before .before in
-    let t = c5 .loop .inv in
-    let e = from-here t (c .before .before .wish-length .ensures) in
-    let some = c .before .if1 .left in
+    let s = c .before .before .before .before .before .before .before .before .before .before .before .before .before .before .before .before .before .before in
+    let t = c .before .before .before .before .loop .inv in
+    let e = from-here t (c .before .wish-length .ensures) in
+    let some = c .if1 .left in
     let inside-input = inside t e some in
-    record { fits = omega (arith, inside-input .0, inside-input .1, c19 .good .1 .1 .1 .1 .1 .1 .1 .0 .0) }
+    record { fits = omega (arith, inside-input .0, inside-input .1, s .good .1 .1 .1 .1 .1 .1 .1 .0 .0) }
 
 sub-p : tie.Need-sub-p Inv-loop μ-loop
 sub-p c =
-    let t = c .before .before .before .before .before .loop .inv in
-    let e = from-here t (c .before .before .wish-length .ensures) in
-    let some = c .before .if1 .left in
+    let t = c .before .before .before .before .loop .inv in
+    let e = from-here t (c .before .wish-length .ensures) in
+    let some = c .if1 .left in
     let inside-input = inside t e some in
     search (needs, inside-input .0, inside-input .1)
 
 part-p-start : tie.Need-part-p-start Inv-loop μ-loop
 part-p-start c =
-    let t = c .before .before .before .before .before .loop .inv in
-    let e = from-here t (c .before .before .wish-length .ensures) in
-    let some = c .before .if1 .left in
+    let t = c .before .before .before .before .loop .inv in
+    let e = from-here t (c .before .wish-length .ensures) in
+    let some = c .if1 .left in
     let inside-input = inside t e some in
     search (needs, inside-input .0, inside-input .1)
 
 part-p-end : tie.Need-part-p-end Inv-loop μ-loop
 part-p-end c =
-    let t = c .before .before .before .before .before .loop .inv in
-    let e = from-here t (c .before .before .wish-length .ensures) in
-    let some = c .before .if1 .left in
+    let t = c .before .before .before .before .loop .inv in
+    let e = from-here t (c .before .wish-length .ensures) in
+    let some = c .if1 .left in
+    let inside-input = inside t e some in
+    search (needs, inside-input .0, inside-input .1)
+
+shared-slice-read-if2 : tie.Need-shared-slice-read-if2 Inv-loop μ-loop
+shared-slice-read-if2 c =
+    let t = c .before .before .before .before .before .before .loop .inv in
+    let e = from-here t (c .before .before .before .wish-length .ensures) in
+    let some = c .before .before .if1 .left in
+    let inside-input = inside t e some in
+    search (needs, inside-input .0, inside-input .1)
+
+on-packet-requires : tie.Need-on-packet-requires Inv-loop μ-loop
+on-packet-requires c κs = search needs
+
+slice-reshare-prefix-put-answer : tie.Need-slice-reshare-prefix-put-answer Inv-loop μ-loop
+slice-reshare-prefix-put-answer c =
+    let can = packet-can (c .before .before .before .before .before .before .before .before .before .before .before .before .before .before .loop .inv) (c .before .before .before .before .before .before .before .before .before .before .before .before .before .loop-test .taken) (c .before .before .before .before .on-packet .ensures) in
+    search (needs, can .within)
+
+slice-aggregate-put-answer : tie.Need-slice-aggregate-put-answer Inv-loop μ-loop
+slice-aggregate-put-answer c =
+    let can = packet-can (c .before .before .before .before .before .before .before .before .before .before .before .before .before .before .before .loop .inv) (c .before .before .before .before .before .before .before .before .before .before .before .before .before .before .loop-test .taken) (c .before .before .before .before .before .on-packet .ensures) in
+    sym (length-take-le _ _ (can .within))
+
+put-answer-requires : tie.Need-put-answer-requires Inv-loop μ-loop
+put-answer-requires c κs =
+    room-of (packet-can (c .before .before .before .before .before .before .before .before .before .before .before .before .before .before .before .before .loop .inv) (c .before .before .before .before .before .before .before .before .before .before .before .before .before .before .before .loop-test .taken) (c .before .before .before .before .before .before .on-packet .ensures))
+
+shared-slice-read-answer : tie.Need-shared-slice-read-answer Inv-loop μ-loop
+shared-slice-read-answer c =
+    let t = c .before .before .before .before .before .before .before .before .before .loop .inv in
+    let e = from-here t (c .before .before .before .before .before .before .wish-length .ensures) in
+    let some = c .before .before .before .before .before .if1 .left in
     let inside-input = inside t e some in
     search (needs, inside-input .0, inside-input .1)
 
 answer-requires : tie.Need-answer-requires Inv-loop μ-loop
 answer-requires c κs =
-    let c6 = c .before .before .before .before .before .before in
-    let c7 = c6 .before in
-    let c9 = c7 .before .before in
-    let c10 = c9 .before in
-    let t = c10 .loop .inv in
-    let e = from-here t (c7 .wish-length .ensures) in
-    let some = c6 .if1 .left in
-    (record { running = t .running; room = omega (arith, c9 .loop-test .taken, at-within t) }, is-wish t e some)
+    let t = c .before .before .before .before .before .before .before .before .before .before .before .before .loop .inv in
+    let e = from-here t (c .before .before .before .before .before .before .before .before .before .wish-length .ensures) in
+    let some = c .before .before .before .before .before .before .before .before .if1 .left in
+    let room = c .before .before .before .before .before .before .before .before .before .before .before .loop-test .taken in
+    let other = c .before .before .before .before .before .if2 .left in
+    (record { running = t .running; room = omega (arith, room, at-within t) }, (is-wish t e some, omega (arith, other)))
 
 add-i : tie.Need-add-i Inv-loop μ-loop
 add-i c =
-    let c16 = c .before .before .before .before .before .before .before .before .before .before .before .before .before .before .before .before in
-    let c17 = c16 .before in
-    let c20 = c17 .before .before .before in
-    let c34 = c20 .before .before .before .before .before .before .before .before .before .before .before .before .before .before in
-    let t = c20 .loop .inv in
-    let e = from-here t (c17 .wish-length .ensures) in
-    let some = c16 .if1 .left in
+    let s = c .before .before .before .before .before .before .before .before .before .before .before .before .before .before .before .before .before .before .before .before .before in
+    let t = c .before .before .before .before .before .before .before .loop .inv in
+    let e = from-here t (c .before .before .before .before .wish-length .ensures) in
+    let some = c .before .before .before .if1 .left in
     let inside-input = inside t e some in
-    record { fits = omega (arith, inside-input .0, inside-input .1, c34 .good .1 .1 .1 .1 .1 .1 .1 .0 .0) }
+    record { fits = omega (arith, inside-input .0, inside-input .1, s .good .1 .1 .1 .1 .1 .1 .1 .0 .0) }
 
 loop-less : tie.Need-loop-less Inv-loop μ-loop
 loop-less c =
-    let c16 = c .before .before .before .before .before .before .before .before .before .before .before .before .before .before .before .before in
-    let c17 = c16 .before in
-    let c20 = c17 .before .before .before in
-    let t = c20 .loop .inv in
-    let e = from-here t (c17 .wish-length .ensures) in
-    let some = c16 .if1 .left in
+    let t = c .before .before .before .before .before .before .before .loop .inv in
+    let e = from-here t (c .before .before .before .before .wish-length .ensures) in
+    let some = c .before .before .before .if1 .left in
     let inside-input = inside t e some in
     omega (arith, inside-input .0, inside-input .1)
 
 loop-again : tie.Need-loop-again Inv-loop μ-loop
 loop-again c =
-    let t = c .before .before .before .before .before .before .before .before .before .before .before .before .before .before .before .before .before .before .before .before .loop .inv in
-    let e = from-here t (c .before .before .before .before .before .before .before .before .before .before .before .before .before .before .before .before .before .wish-length .ensures) in
-    let some = c .before .before .before .before .before .before .before .before .before .before .before .before .before .before .before .before .if1 .left in
-    turns t e some
-    (c .before .before .before .before .before .before .before .before .before .before .before .before .before .before .before .before .before .before .before .loop-test .taken)
-    (c .before .before .before .before .before .before .before .before .before .answer .ensures) (search needs) (search needs) (search needs)
+    let t = c .before .before .before .before .before .before .before .loop .inv in
+    let e = from-here t (c .before .before .before .before .wish-length .ensures) in
+    let some = c .before .before .before .if1 .left in
+    let room = c .before .before .before .before .before .before .loop-test .taken in
+    ⊎-elim
+    (λ w. rw (w .14, w .15, w .16, w .17, w .18, w .19)
+    (packet-turns t e some room (w .0 .taken) (w .3 .ensures) (w .10 .ensures) (search needs) (search needs)))
+    (λ w. rw (w .14, w .15, w .16, w .17, w .18, w .19)
+    (turns t e some room (w .6 .ensures _ _ _ _ _) refl (search needs) (search needs)))
+    (c .if2 .came)
 
 same-length-5 : tie.Need-same-length-5 Inv-loop μ-loop
 same-length-5 c = search (needs, c .before .loop .inv .poolLong)
@@ -198,12 +222,17 @@ answer-all-spec =
     same-length-3
     same-length-4
     returns
-    shared-slice-read-kind
     add-p
     add-p-2
     sub-p
     part-p-start
     part-p-end
+    shared-slice-read-if2
+    on-packet-requires
+    slice-reshare-prefix-put-answer
+    slice-aggregate-put-answer
+    put-answer-requires
+    shared-slice-read-answer
     answer-requires
     add-i
     loop-less

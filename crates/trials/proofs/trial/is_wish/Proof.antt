@@ -54,21 +54,26 @@ returns-12 c = rw (c .match .keys12)
 
 returns-13 : tie.Need-returns-13
 unfolding isWish
-returns-13 c =
+returns-13 c = rw (c .match .keys13)
+
+returns-14 : tie.Need-returns-14
+unfolding isWish
+returns-14 c =
     let r = c .match .rest in
     rw (
-      ne-eqb _ 0 (r .0 .0 .0 .0 .0 .0 .0 .0 .0 .0 .0 .1),
-      ne-eqb _ 1 (r .0 .0 .0 .0 .0 .0 .0 .0 .0 .0 .1),
-      ne-eqb _ 2 (r .0 .0 .0 .0 .0 .0 .0 .0 .0 .1),
-      ne-eqb _ 3 (r .0 .0 .0 .0 .0 .0 .0 .0 .1),
-      ne-eqb _ 4 (r .0 .0 .0 .0 .0 .0 .0 .1),
-      ne-eqb _ 5 (r .0 .0 .0 .0 .0 .0 .1),
-      ne-eqb _ 6 (r .0 .0 .0 .0 .0 .1),
-      ne-eqb _ 7 (r .0 .0 .0 .0 .1),
-      ne-eqb _ 8 (r .0 .0 .0 .1),
-      ne-eqb _ 9 (r .0 .0 .1),
-      ne-eqb _ 10 (r .0 .1),
-      ne-eqb _ 11 (r .1),
+      ne-eqb _ 0 (r .0 .0 .0 .0 .0 .0 .0 .0 .0 .0 .0 .0 .1),
+      ne-eqb _ 1 (r .0 .0 .0 .0 .0 .0 .0 .0 .0 .0 .0 .1),
+      ne-eqb _ 2 (r .0 .0 .0 .0 .0 .0 .0 .0 .0 .0 .1),
+      ne-eqb _ 3 (r .0 .0 .0 .0 .0 .0 .0 .0 .0 .1),
+      ne-eqb _ 4 (r .0 .0 .0 .0 .0 .0 .0 .0 .1),
+      ne-eqb _ 5 (r .0 .0 .0 .0 .0 .0 .0 .1),
+      ne-eqb _ 6 (r .0 .0 .0 .0 .0 .0 .1),
+      ne-eqb _ 7 (r .0 .0 .0 .0 .0 .1),
+      ne-eqb _ 8 (r .0 .0 .0 .0 .1),
+      ne-eqb _ 9 (r .0 .0 .0 .1),
+      ne-eqb _ 10 (r .0 .0 .1),
+      ne-eqb _ 11 (r .0 .1),
+      ne-eqb _ 12 (r .1),
     )
 
 pub is-wish-spec : {M : Type 1} → statement M
@@ -87,4 +92,5 @@ is-wish-spec =
     returns-10
     returns-11
     returns-12
-    returns-13)
+    returns-13
+    returns-14)

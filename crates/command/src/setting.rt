@@ -1,0 +1,80 @@
+// A command that is carried out and sets the event masks, the settings, advertising or scanning. Like the functions of `running`.
+ghost use mathlib.Core.List.{List};
+ghost use Prim.Native.Nat.{ℕ};
+ghost use Rattle.commands.specs.Outcome.{given};
+ghost use Rattle.dispatch.specs.declared.Part.the-variants as part;
+ghost use Rattle.command.specs.Calling.{CanCarry, Gave, carriedBy};
+use crate::Told;
+use crate::record;
+use hci::status::SUCCESS;
+use profile::ControllerRow;
+use state::Controller;
+
+// A command that sets an event mask; it always succeeds.
+pub fn set_masks(s: Controller, profile: ControllerRow, op: u16, p: &[u8], out: &mut [u8]) -> Told
+    requires { ⌜ CanCarry s profile op part.Masks (now p) (now out) ⌝ }
+    ensures { λ r. ⌜ ((address : List ℕ) (random : ℕ) → Gave (carriedBy (given profile address random (now (p .entry))) op) profile op s (now (out .entry)) r (now (out .exit))) ⌝ }
+{
+    let mut t = record::begun(s, op);
+    let part = dispatch::masks(t, profile, op, p);
+    t.masks = part;
+    let answer = answers::done(SUCCESS);
+    record::finished(t, profile.num_command_packets, op, answer, out)
+}
+
+// A command that changes the settings.
+pub fn set_settings(
+    s: Controller,
+    profile: ControllerRow,
+    op: u16,
+    p: &[u8],
+    out: &mut [u8],
+) -> Told
+    requires { ⌜ CanCarry s profile op part.Settings (now p) (now out) ⌝ }
+    ensures { λ r. ⌜ ((address : List ℕ) (random : ℕ) → Gave (carriedBy (given profile address random (now (p .entry))) op) profile op s (now (out .entry)) r (now (out .exit))) ⌝ }
+{
+    let mut t = record::begun(s, op);
+    let r = dispatch::settings(t, profile, op, p);
+    let answer = r.answer;
+    let part = r.settings;
+    t.settings = part;
+    record::finished(t, profile.num_command_packets, op, answer, out)
+}
+
+// A command that changes legacy advertising.
+pub fn set_advertising(
+    s: Controller,
+    profile: ControllerRow,
+    op: u16,
+    p: &[u8],
+    out: &mut [u8],
+) -> Told
+    requires { ⌜ CanCarry s profile op part.Advertising (now p) (now out) ⌝ }
+    ensures { λ r. ⌜ ((address : List ℕ) (random : ℕ) → Gave (carriedBy (given profile address random (now (p .entry))) op) profile op s (now (out .entry)) r (now (out .exit))) ⌝ }
+{
+    let mut t = record::begun(s, op);
+    let r = dispatch::advertising(t, profile, op, p);
+    let answer = r.answer;
+    let part = r.advertising;
+    t.advertising = part;
+    record::finished(t, profile.num_command_packets, op, answer, out)
+}
+
+// A command that changes scanning or initiating.
+pub fn set_scanning(
+    s: Controller,
+    profile: ControllerRow,
+    op: u16,
+    p: &[u8],
+    out: &mut [u8],
+) -> Told
+    requires { ⌜ CanCarry s profile op part.Scanning (now p) (now out) ⌝ }
+    ensures { λ r. ⌜ ((address : List ℕ) (random : ℕ) → Gave (carriedBy (given profile address random (now (p .entry))) op) profile op s (now (out .entry)) r (now (out .exit))) ⌝ }
+{
+    let mut t = record::begun(s, op);
+    let r = dispatch::scanning(t, profile, op, p);
+    let answer = r.answer;
+    let part = r.scanning;
+    t.scanning = part;
+    record::finished(t, profile.num_command_packets, op, answer, out)
+}

@@ -1,0 +1,2 @@
+-- What the functions of `dispatch` count on.
+pub mod Parts
