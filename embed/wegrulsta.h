@@ -13,9 +13,10 @@ size_t wegrulsta_bench(const uint8_t *input, size_t input_len, uint8_t *out, siz
 
 /* Records of all calls. setup: 112 octets of profile, 6 of public address, 8 of random number, 5 a row (opcode, answer, bit number).
  * A record is a kind, how many octets follow (2, low first), and those: kind 0 is a packet, 1 a take, 2 to 10 the notices, 11 asks
- * for the whole state, 12 for what the queries find. crates/trials/specs/Trials.antt lists the kinds and the answers. pool has
- * acl_count * (acl_len + 5) octets or more, events 71 or more, packets what a take may give. The run ends at what is no record, and
- * where less than 40,960 octets are left in out. 0 where setup or pool is none. */
+ * for the whole state, 12 for what the queries find. crates/trials/specs/Trials.antt lists the kinds and the answers,
+ * crates/dump/specs/Dump.antt the octets of a state. pool has acl_count * (acl_len + 5) octets or more, events 71 or more, packets
+ * what a take may give. The run ends at what is no record, and where less than 40,960 octets are left in out. 0 where setup or pool
+ * is none. */
 size_t wegrulsta_trials(const uint8_t *setup, size_t setup_len, uint8_t *pool, size_t pool_len, uint8_t *events,
                         size_t events_len, uint8_t *packets, size_t packets_len, const uint8_t *input, size_t input_len,
                         uint8_t *out, size_t out_len);

@@ -1,4 +1,4 @@
-//! The source's whole state as octets, as `crates/trials/specs/Dump.antt` says.
+//! The source's whole state as octets, as `crates/dump/specs/Dump.antt` says.
 use crate::ble::controller::{Advertising, Connection, Controller};
 use crate::octets::put_word;
 

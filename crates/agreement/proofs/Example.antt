@@ -34,7 +34,8 @@ use Rattle.credits.proofs.Example as fed
 use Rattle.h4.specs.Framing.{byIndicator, packetLength, whole, packetsUpTo, packets}
 use Rattle.agreement.specs.Agreement.{reports, Typed, TypedProfile, Called, limitsOf, reading}
 use Rattle.agreement.proofs.Agreement.{demand-3}
-use Rattle.agreement.specs.Example.{bench, benchProfile, start, pool, run}
+use Rattle.bench_profile.specs.Bench.{benchController}
+use Rattle.agreement.specs.Example.{benchProfile, start, pool, run}
 
 -- ---- one call
 
@@ -143,7 +144,7 @@ run-premises = record {
 }
 
 -- ---- what else demand 3 asks
-pub bench-typed : TypedProfile bench
+pub bench-typed : TypedProfile benchController
 bench-typed = record { commands = refl; features = refl; states = refl }
 
 pub start-starts : Starts start

@@ -5,10 +5,8 @@
 use Prim.Native.Nat.{ℕ, _-_, _/_}
 use mathlib.Core.List.{List, [], _∷_, _++_}
 use mathlib.Core.Bool.{false}
-use lib.IntN.{pos}
 use lib.ListN.{length, replicate}
 use Rattle.hci.specs.Packet.{acl}
-use Rattle.profile.specs.declared.ControllerRow.{ControllerRow}
 use Rattle.links.specs.declared.Connection.{Connection}
 use Rattle.links.specs.declared.Waiting.{Waiting}
 use Rattle.links.specs.declared.Links.{Links}
@@ -19,37 +17,13 @@ use Rattle.calls.specs.Packets.{Profile}
 use Rattle.calls.specs.Calls.{Call, onPacket, takeTransmit, openConnection, completed, dropInFlight, remoteDisconnect, Held, held}
 use Rattle.calls.specs.Gives.{Answer, plain, events, packets, profileOf}
 use Rattle.credits.specs.Credits.{Made}
+use Rattle.bench_profile.specs.Bench.{benchController}
 
--- ---- the profile: document 01, "Bench lines", with the rows of the two commands of the run
-
-abbrev pub bench : ControllerRow
-bench = record {
-  «hci_version» = 0;
-  «hci_subversion» = 0;
-  «lmp_version» = 0;
-  company = 0;
-  «lmp_subversion» = 0;
-  «supported_commands» = replicate 64 0;
-  «lmp_features» = replicate 8 0;
-  «le_features» = 0x100;
-  «supported_states» = replicate 8 0;
-  «acl_len» = 27;
-  «acl_count» = 2;
-  «accept_list_size» = 2;
-  «resolving_list_size» = 2;
-  «adv_tx_power» = pos 0;
-  «tx_power_min» = pos 0;
-  «tx_power_max» = pos 9;
-  «max_tx_octets» = 251;
-  «max_tx_time» = 2120;
-  «max_adv_data_len» = 0;
-  «adv_sets» = 0;
-  «num_command_packets» = 5;
-}
+-- ---- the profile: `benchController` in `bench_profile/specs/Bench.antt`, with the rows of the two commands of the run
 
 -- Set Event Mask and Reset, modelled: bits 6 and 7 of octet 5 of the supported commands
 abbrev pub benchProfile : Profile
-benchProfile = profileOf bench (0x0C01 ∷ 0x0C03 ∷ []) (0 ∷ 0 ∷ []) (46 ∷ 47 ∷ [])
+benchProfile = profileOf benchController (0x0C01 ∷ 0x0C03 ∷ []) (0 ∷ 0 ∷ []) (46 ∷ 47 ∷ [])
 
 -- ---- the states: along the run only the links, two counters and the last answers change. The contracts leave open what stands
 -- past the counts; here it is always the same

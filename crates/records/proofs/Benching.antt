@@ -28,7 +28,8 @@ use Rattle.calls.specs.Packets.{Reply, reply}
 use Rattle.calls.specs.Calls.{Call, onPacket, takeTransmit, openConnection, completed, dropInFlight, acceptConnection, peerUpdate, requestLtk, completeDisconnect, remoteDisconnect, advertisingTimeout, Held, held, modelOf, Question, firstNo, questionsOf, replyTo}
 use Rattle.calls.specs.Gives.{Answer, Gives, GivesAnyRows, profileOf}
 use Rattle.records.specs.Lines.{hexLine, doneLine}
-use Rattle.records.specs.Bench.{bench, benchController, refusal, letter, answerLines, replyLines, printedWith, printed, Running, Prints}
+use Rattle.bench_profile.specs.Bench.{benchController}
+use Rattle.records.specs.Bench.{bench, refusal, letter, answerLines, replyLines, printedWith, printed, Running, Prints}
 use Rattle.records.proofs.Printing.{length-line}
 use Rattle.records.proofs.PacketLines.{linesFor}
 

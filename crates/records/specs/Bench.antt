@@ -1,15 +1,13 @@
--- The bench: document 01's profile, and what is printed for each line of input. For readers of the program `bench` and of the C
--- calls.
+-- The bench: the rows beside document 01's profile, and what is printed for each line of input. For readers of the program `bench`
+-- and of the C calls.
 use mathlib.Core.Path.{_≡_}
 use Prim.Native.Nat.{ℕ, _-_, _≤_}
 use mathlib.Core.List.{List, [], _∷_, _++_, map, flatten}
 use mathlib.Core.Bool.{Bool, true, false, cond}
 use lib.Dec.{leb, eqb}
-use lib.IntN.{pos}
-use lib.ListN.{length, replicate}
+use lib.ListN.{length}
 use Rattle.octets.specs.Octets.{Put}
 use Rattle.h4.specs.Framing.{packets}
-use Rattle.profile.specs.declared.ControllerRow.{ControllerRow}
 use Rattle.links.specs.Links.{inUse}
 use Rattle.state.specs.State.{Model, defaultModel}
 use Rattle.state.specs.Holding.{StateHolds}
@@ -17,36 +15,10 @@ use Rattle.state.specs.declared.Controller.{Controller}
 use Rattle.commands.specs.Table as table
 use Rattle.calls.specs.Packets.{Profile, Reply, reply}
 use Rattle.calls.specs.Calls.{Call, onPacket, takeTransmit, openConnection, completed, dropInFlight, acceptConnection, peerUpdate, requestLtk, completeDisconnect, remoteDisconnect, advertisingTimeout, Held, held, modelOf, firstNo, questionsOf, replyTo}
+use Rattle.bench_profile.specs.Bench.{benchController}
 use Rattle.records.specs.Lines.{Line, calls, noRecord, before, recordOf, hexLine, doneLine}
 
--- ---- the profile
-
--- acl_len 27, acl_count 2, both lists 2, num_command_packets 5, le_features 0x100, tx_power_max 9, max_tx_octets 251,
--- max_tx_time 2,120, rest 0
-abbrev pub benchController : ControllerRow
-benchController = record {
-  «hci_version» = 0;
-  «hci_subversion» = 0;
-  «lmp_version» = 0;
-  company = 0;
-  «lmp_subversion» = 0;
-  «supported_commands» = replicate 64 0;
-  «lmp_features» = replicate 8 0;
-  «le_features» = 0x100;
-  «supported_states» = replicate 8 0;
-  «acl_len» = 27;
-  «acl_count» = 2;
-  «accept_list_size» = 2;
-  «resolving_list_size» = 2;
-  «adv_tx_power» = pos 0;
-  «tx_power_min» = pos 0;
-  «tx_power_max» = pos 9;
-  «max_tx_octets» = 251;
-  «max_tx_time» = 2120;
-  «max_adv_data_len» = 0;
-  «adv_sets» = 0;
-  «num_command_packets» = 5;
-}
+-- ---- the profile: `benchController` in `bench_profile/specs/Bench.antt`, with its rows
 
 -- rows: each opcode that `param_len` names, modelled; 0x2036 unmodelled; 0x0C05 unknown; no bit numbers
 abbrev pub bench : Profile

@@ -26,9 +26,10 @@ use Rattle.state.proofs.Holding.{state-tested}
 use Rattle.calls.specs.Packets.{Profile}
 use Rattle.calls.specs.Calls.{Call, Held, held, modelOf, firstNo, replyTo, takenBy}
 use Rattle.calls.specs.Gives.{Answer, Gives, GivesAnyPool, Finds, plain, events}
+use Rattle.dump.specs.Dump.{flag}
+use Rattle.dump.specs.Running.{Running}
 use Rattle.trials.specs.Trials.{Lent, lent, roomOf, numberOf, answerTo, reasonOctets, found}
-use Rattle.trials.specs.Dump.{flag}
-use Rattle.trials.specs.Running.{Running, Answers, CanAnswer, CanPut, AnswersAny, answerOctets}
+use Rattle.trials.specs.Running.{Answers, CanAnswer, CanPut, AnswersAny, answerOctets}
 
 -- a number is 0 or not
 by-zero : {A : Type 0} (n : ℕ) → (n ≡ 0 → A) → (0 < n → A) → A

@@ -1,10 +1,6 @@
--- The laws of trials: reading records and the setup, the state as octets, answers, and the run.
+-- The laws of trials: reading records and the setup, answers, and the run.
 pub mod Recording
 pub mod Setting
-pub mod Listing
-pub mod Fields
-pub mod Dumping
-pub mod Whole
 pub mod Answering
 pub mod Shortness
 pub mod Wishing

@@ -22,10 +22,11 @@ use Rattle.state.specs.declared.Controller.{Controller}
 use Rattle.calls.specs.Calls.{Held, held, modelOf, onPacket}
 use Rattle.calls.specs.Gives.{Starts, Gives, profileOf}
 use Rattle.calls.specs.Gives.{events as eventsAnswer}
+use Rattle.dump.specs.Running.{Running}
 use Rattle.trials.specs.Setup.{part, controllerOf, addressOf, randomOf, profileFrom, rowCount, isSetup}
 use Rattle.trials.specs.Trials.{Wish, asks, shows, finds, stops, atWish, wishOf, recordLength, Lent, lent, answerTo, shown, trials, runTrials}
 use Rattle.trials.specs.Trials.{found as foundOctets}
-use Rattle.trials.specs.Running.{Running, AnswersWish, CanPut, IsSetUp, isWish, wishLength}
+use Rattle.trials.specs.Running.{AnswersWish, CanPut, IsSetUp, isWish, wishLength}
 use Rattle.trials.proofs.Answering.{can-put, answers-held, put-front-of}
 use Rattle.trials.proofs.Shortness.{Sized, packet-short}
 use Rattle.trials.proofs.Wishing.{Asking, asking, wish-packet, wish-stops, record-some}

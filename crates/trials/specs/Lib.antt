@@ -1,6 +1,5 @@
--- Trials: what a run is set up with, a state as octets, the records and answers of a run, and what the functions count on and give.
+-- Trials: what a run is set up with, the records and answers of a run, and what the functions count on and give. A state as octets
+-- is in the crate `dump`.
 pub mod Setup
-pub mod Dump
-pub mod Parts
 pub mod Trials
 pub mod Running

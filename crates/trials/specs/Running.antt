@@ -1,4 +1,4 @@
--- What the functions of `trials` count on and give.
+-- What the functions of `trials` count on and give. What stands between two records, `Running`, is in `dump/specs/Running.antt`.
 use mathlib.Core.Path.{_≡_}
 use Prim.Native.Nat.{ℕ, _+_, _*_, _≤_}
 use mathlib.Core.List.{List, _∷_, _++_, map}
@@ -13,19 +13,9 @@ use Rattle.state.specs.declared.Controller.{Controller}
 use Rattle.calls.specs.Packets.{Profile, Reply}
 use Rattle.calls.specs.Calls.{Call, Held, held, modelOf}
 use Rattle.calls.specs.Gives.{profileOf}
+use Rattle.dump.specs.Running.{Running}
 use Rattle.trials.specs.Setup.{rowsOf, isSetup}
 use Rattle.trials.specs.Trials.{Wish, asks, shows, finds, stops, Lent, lent, recordLength, answerTo, shown, found}
-
--- between two records: the profile is within its limits, the state holds together and the pool has its places
-pub record Running (k : ControllerRow) (s : Held) : Type 0 where
-  pub limits : Limits k
-  pub together : StateHolds (s .state) k
-  pub places : k .«acl_count» * placeSize k ≤ length (s .pool)
-
--- the same, with room for the octets of the state
-pub record CanDump (k : ControllerRow) (s : Held) (out : List ℕ) (at : ℕ) : Type 0 where
-  pub running : Running k s
-  pub room : at + 40958 ≤ length out
 
 -- the call c was made, and its answer written from index at
 pub record Answers (g : Profile) (lent : Lent) (c : Call) (s t : Held) (out : List ℕ) (at r : ℕ) (after : List ℕ) : Type 0 where

@@ -13,8 +13,8 @@ use Rattle.links.specs.Look.{terminatingOf}
 use Rattle.state.specs.State.{Model, defaultModel}
 use Rattle.calls.specs.Packets.{Profile, Reply, reply}
 use Rattle.calls.specs.Calls.{Call, onPacket, takeTransmit, openConnection, completed, dropInFlight, acceptConnection, peerUpdate, requestLtk, completeDisconnect, remoteDisconnect, advertisingTimeout, firstNo, questionsOf, replyTo, takenBy}
+use Rattle.dump.specs.Dump.{flag, stateOctets}
 use Rattle.trials.specs.Setup.{part, profileFrom, addressOf, randomOf, isSetup}
-use Rattle.trials.specs.Dump.{flag, stateOctets}
 
 -- ---- records: a kind, how many octets follow (2), and those
 

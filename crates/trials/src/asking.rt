@@ -16,7 +16,6 @@ ghost use Rattle.calls.specs.Gives.{profileOf};
 ghost use Rattle.trials.specs.Setup.{part};
 ghost use Rattle.trials.specs.Trials.{lent, shown, reasonOctets, found};
 ghost use Rattle.trials.specs.Running.{Answers, CanAnswer, CanPut, CanGo, AnswersAny, answerOctets};
-use crate::dump;
 use crate::setup;
 use controller::Changed;
 use controller::Told;

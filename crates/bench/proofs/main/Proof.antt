@@ -2,7 +2,7 @@
 use mathlib.Core.Path.{refl, sym}
 use lib.Dec.{lit≤}
 use lib.Seq.{length-take-le}
-use Rattle.records.specs.Bench.{benchController}
+use Rattle.bench_profile.specs.Bench.{benchController}
 use Rattle.records.proofs.Benching.{runs-with}
 use borrow.Author.Needs.{needs}
 use Rattle.bench.proofs.main.Statement.{statement}

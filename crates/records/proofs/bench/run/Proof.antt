@@ -2,7 +2,7 @@
 use native.Mathlib.Omega.{arith}
 use borrow.Author.Needs.{needs}
 use Rattle.octets.proofs.Writing.{put-long}
-use Rattle.records.specs.Bench.{benchController}
+use Rattle.bench_profile.specs.Bench.{benchController}
 use Rattle.records.proofs.Running.{runs-not, runs}
 use Rattle.records.proofs.bench.run.Statement.{statement}
 use Rattle.records.proofs.bench.run.Tie as tie

@@ -2,8 +2,8 @@
 use mathlib.Core.Path.{refl, ap, _∙_}
 use Prim.Native.Nat.{ℕ}
 use Rattle.state.specs.State.{view}
+use Rattle.dump.proofs.Listing.{put-is}
 use Rattle.trials.specs.Trials.{found}
-use Rattle.trials.proofs.Listing.{put-is}
 use borrow.Author.Needs.{needs}
 use Rattle.trials.proofs.asking.find.Statement.{statement}
 use Rattle.trials.proofs.asking.find.Tie as tie

@@ -1,0 +1,2 @@
+-- The bench profile of document 01.
+pub mod Bench
