@@ -18,6 +18,8 @@ use Rattle.state.specs.State.{Model, view, answersOf, countCommand}
 use Rattle.state.specs.Holding.{StateHolds}
 use Rattle.state.specs.declared.Controller.{Controller}
 use Rattle.state.specs.declared.Masks.{Masks}
+use Rattle.state.specs.declared.Counters.{Counters}
+use Rattle.state.specs.declared.Settings.{Settings}
 use Rattle.state.specs.declared.Recent.{Recent}
 use Rattle.commands.specs.Checks.{within}
 use Rattle.commands.specs.Parts.{withMasks, withSettings, withCounters, withRecent}
@@ -31,8 +33,9 @@ use Rattle.commands.proofs.Giving.{holds-counters, holds-settings, holds-recent
 use Rattle.dispatch.specs.declared.Part.{Part}
 use Rattle.dispatch.specs.Parts.{rowsOf}
 use Rattle.dispatch.proofs.Halves.{row-fits, row-gives}
+use Rattle.command.specs.declared.Noted.{Noted}
 use Rattle.command.specs.declared.Told.{Told}
-use Rattle.command.specs.Calling.{familyIn, begunFrom, rememberedIn, carriedBy, ShapedProfile, CanCarry, CanFinish, Finished, Gave}
+use Rattle.command.specs.Calling.{familyIn, begunFrom, rememberedIn, carriedBy, ShapedProfile, CanCarry, CanFinish, Finished, FinishedFrom, Gave, toldOf}
 
 -- ---- the family
 
@@ -75,15 +78,20 @@ recent-view Status op octets x s e size pool = ap (λ (l : List (List ℕ)). wit
 recent-view Silent op octets x s e size pool = ap (λ (l : List (List ℕ)). withRecent l (view s size pool)) e
 
 -- x are the last answers then
-pub finishes : {num op : ℕ} (a : AnswerModel) (s : Controller) (x : Recent) {out after : List ℕ} {n : ℕ}
+finishes : {num op : ℕ} (a : AnswerModel) (s : Controller) (x : Recent) {out after : List ℕ} {n : ℕ}
     → (answersOf x ≡ rememberedIn (a .form) op (a .octets) (answersOf (s .recent))) × (x .count ≤ 32) → Put out 0 (octetsOf num op a) n after
-    → Finished num op a s out (record { number = 0; state = putRecent x s; written = n }) after
+    → Finished num op a s out (toldOf s (record { counters = s .counters; settings = s .settings; recent = x; written = n })) after
 finishes {op = op} a s x kept put = record {
   number = refl;
   viewed = recent-view (a .form) op (a .octets) x s (kept .0);
   written = put;
   held = λ k h. holds-recent h (kept .1);
 }
+
+pub finishes-from : {num op : ℕ} (a : AnswerModel) (counters : Counters) (settings : Settings) (recent x : Recent) {out after : List ℕ} {n : ℕ}
+    → (answersOf x ≡ rememberedIn (a .form) op (a .octets) (answersOf recent)) × (x .count ≤ 32) → Put out 0 (octetsOf num op a) n after
+    → FinishedFrom counters settings recent num op a out (record { counters = counters; settings = settings; recent = x; written = n }) after
+finishes-from a counters settings recent x kept put = λ s c t r. rw (sym c, sym t) (finishes a s x (rw (sym r) at kept) put)
 
 -- the outcome f, with v the state after it
 pub gave : {f : Model → Outcome} {k : ControllerRow} {op : ℕ} {s v : Controller} {a : AnswerModel} {out after : List ℕ} {r : Told}
@@ -108,25 +116,32 @@ module _ {k : ControllerRow} {op : ℕ} {s u : Controller} {part : Part} {p out 
   pub can-dispatch : Ready u k × (sized op (rowsOf part) (length p) ≡ true)
   can-dispatch = (begun-ready op s begun (can .ready), row-fits (length p) (can .listed) (can .sized))
 
-  module _ (address : List ℕ) (random : ℕ) {v : Controller} (a : Answer)
-      (gives : Gives (find op (rowsOf part) .does (given k address random p)) k u v a) where
-    listed : Gives (find op rows .does (given k address random p)) k u v a
+  -- put is how the part that the row changes is put into the state
+  module _ (address : List ℕ) (random : ℕ) (put : Controller → Controller) (a : Answer)
+      (gives : Gives (find op (rowsOf part) .does (given k address random p)) k u (put u) a) where
+    listed : Gives (find op rows .does (given k address random p)) k u (put u) a
     listed = row-gives (can .listed) gives
 
     -- the answer is that of a row, so it fits
-    pub can-finish : length address ≡ 6 → CanFinish v a out
+    pub can-finish : length address ≡ 6 → CanFinish (put u .recent) a out
     can-finish long = record {
-      recent = gives .held .recent;
+      few = gives .held .recent;
       holds = gives .shaped;
       modest = rw (ap (λ (o : Outcome). o .answer) (listed .viewed 0 [])) (rows-modest (given k address random p) (shaped-given (can .shaped) long) op (view u 0 []));
       room = can .room;
     }
 
-    pub carried : {r : Told} {after : List ℕ} → Finished (k .«num_command_packets») op (answerOf a) v out r after
-        → Gave (carriedBy (given k address random p) op) k op s out r after
-    carried =
-        gave (λ size pool. listed .viewed size pool ∙ ap (find op rows .does (given k address random p)) (begun-view op s begun size pool))
-        (listed .held)
+    -- all that the command began with is noted, so the part may as well be put into the state before it
+    pub carried : (n : Noted) → toldOf (put (begunFrom op s)) n ≡ toldOf (put s) n → {after : List ℕ}
+        → FinishedFrom (put u .counters) (put u .settings) (put u .recent) (k .«num_command_packets») op (answerOf a) out n after
+        → Gave (carriedBy (given k address random p) op) k op s out (toldOf (put s) n) after
+    carried n same end =
+        rw (ap (λ (z : Controller). toldOf (put z) n) begun ∙ same)
+        at (gave {f = carriedBy (given k address random p) op} {s = s} (λ size pool. listed .viewed size pool ∙ ap (find op rows .does (given k address random p)) (begun-view op s begun size pool)) (listed .held) (end (put u) refl refl refl))
+
+-- a command that changes no part puts none
+abbrev pub noPart : Controller → Controller
+noPart s = s
 
 -- an address for the commands that tell none
 abbrev pub noAddress : List ℕ

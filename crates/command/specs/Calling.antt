@@ -17,16 +17,18 @@ use Rattle.state.specs.State.{Model, view, remember, countCommand, countUnknown
 use Rattle.state.specs.Holding.{StateHolds}
 use Rattle.state.specs.declared.Controller.{Controller}
 use Rattle.state.specs.declared.Counters.{Counters}
+use Rattle.state.specs.declared.Recent.{Recent}
 use Rattle.state.specs.declared.Settings.{Settings}
 use Rattle.commands.specs.Status.{success, unknownCommand, commandDisallowed, unsupportedFeature, invalidParameters}
 use Rattle.commands.specs.Parts.{withCounters, withAdvertisingFamily}
-use Rattle.commands.specs.Put.{putSettings, putCounters}
+use Rattle.commands.specs.Put.{putSettings, putCounters, putRecent}
 use Rattle.commands.specs.Outcome.{Outcome, outcome, done, Given, Ready}
 use Rattle.commands.specs.Table.{find, sized, rows}
 use Rattle.commands.specs.Command.{familyOf, withFamily, refused, unknownCounted, byRow, remembered, afterAnswer}
 use Rattle.commands.specs.Leaves.{Modest}
 use Rattle.dispatch.specs.declared.Part.{Part}
 use Rattle.dispatch.specs.Parts.{rowsOf}
+use Rattle.command.specs.declared.Noted.{Noted}
 use Rattle.command.specs.declared.Told.{Told}
 use Rattle.command.specs.declared.course.Reason.{Reason}
 use Rattle.command.specs.declared.course.Reason.the-variants.{UnknownRow, NoRow, Vendor, OtherFamily, Unmodeled, BadParameters}
@@ -118,6 +120,14 @@ pub record ShapedProfile (k : ControllerRow) : Type 0 where
   pub features : length (k .«lmp_features») ≡ 8
   pub states : length (k .«supported_states») ≡ 8
 
+-- what a call tells whose state is s but for what was noted
+abbrev pub toldOf : Controller → Noted → Told
+toldOf s n = record {
+  number = 0;
+  state = putRecent (n .recent) (putSettings (n .settings) (putCounters (n .counters) s));
+  written = n .written;
+}
+
 -- questions 1, 3 and 5 were answered, and the opcode's row is of this part, with as many parameters as it says
 pub record CanCarry (s : Controller) (k : ControllerRow) (op : ℕ) (part : Part) (p out : List ℕ) : Type 0 where
   pub ready : Ready s k
@@ -127,8 +137,8 @@ pub record CanCarry (s : Controller) (k : ControllerRow) (op : ℕ) (part : Part
   pub room : 71 ≤ length out
 
 -- an answer that fits the buffer, which question 5 was asked of
-pub record CanFinish (s : Controller) (a : Answer) (out : List ℕ) : Type 0 where
-  pub recent : s .recent .count ≤ 32
+pub record CanFinish (recent : Recent) (a : Answer) (out : List ℕ) : Type 0 where
+  pub few : recent .count ≤ 32
   pub holds : AnswerHolds a
   pub modest : Modest (answerOf a)
   pub room : 71 ≤ length out
@@ -139,6 +149,11 @@ pub record Finished (num op : ℕ) (a : AnswerModel) (s : Controller) (out : Lis
   pub viewed : (size : ℕ) (pool : List ℕ) → view (r .state) size pool ≡ remembered (a .form) op (a .octets) (view s size pool)
   pub written : Put out 0 (octetsOf num op a) (r .written) after
   pub held : (k : ControllerRow) → StateHolds s k → StateHolds (r .state) k
+
+-- the same of any state with these counters, settings and last answers, where n is noted
+abbrev pub FinishedFrom : Counters → Settings → Recent → ℕ → ℕ → AnswerModel → List ℕ → Noted → List ℕ → Type 0
+FinishedFrom counters settings recent num op a out n after =
+    (s : Controller) → s .counters ≡ counters → s .settings ≡ settings → s .recent ≡ recent → Finished num op a s out (toldOf s n) after
 
 -- the outcome f of a command, from the state with the command counted: the answer is remembered, and written
 pub record Gave (f : Model → Outcome) (k : ControllerRow) (op : ℕ) (s : Controller) (out : List ℕ) (r : Told) (after : List ℕ) : Type 0 where

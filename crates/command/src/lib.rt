@@ -1,11 +1,21 @@
 // A command from its opcode to the octets of its answer (`command` of the source): `course_of` says how it is answered, by the
-// profile's row, the advertising family and the table of commands, and there is a function for each of these courses. They put the
-// state together once and hand it back with what was written. For `on_packet`, which has asked the questions. Contracts cite
+// profile's row, the advertising family and the table of commands, and there is a function for each of these courses. They give what
+// the command changes, and `putting` puts it into the state. For `on_packet`, which has asked the questions. Contracts cite
 // `specs/Calling.antt` and `commands/specs/Command.antt`.
+use filters::AcceptList;
+use filters::ResolvingList;
+use links::Links;
+use state::Advertising;
 use state::Controller;
+use state::Counters;
+use state::Masks;
+use state::Recent;
+use state::Scanning;
+use state::Settings;
 
 mod course;
 mod family;
+mod putting;
 mod record;
 mod refusing;
 mod running;
@@ -31,4 +41,43 @@ pub struct Told {
     pub number: u8,
     pub state: Controller,
     pub written: usize,
+}
+
+// What every command changes, and how many octets of events stand at the front of the buffer.
+pub struct Noted {
+    pub counters: Counters,
+    pub settings: Settings,
+    pub recent: Recent,
+    pub written: usize,
+}
+
+// The same, and the one part that the command changes besides.
+pub struct MasksSet {
+    pub noted: Noted,
+    pub masks: Masks,
+}
+
+pub struct AdvertisingSet {
+    pub noted: Noted,
+    pub advertising: Advertising,
+}
+
+pub struct ScanningSet {
+    pub noted: Noted,
+    pub scanning: Scanning,
+}
+
+pub struct AcceptListChanged {
+    pub noted: Noted,
+    pub accept_list: AcceptList,
+}
+
+pub struct ResolvingListChanged {
+    pub noted: Noted,
+    pub resolving_list: ResolvingList,
+}
+
+pub struct LinksChanged {
+    pub noted: Noted,
+    pub links: Links,
 }

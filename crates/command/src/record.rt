@@ -4,13 +4,15 @@ ghost use Prim.Native.Nat.{_≤_};
 ghost use lib.ListN.{getD};
 ghost use Rattle.answers.specs.Answers.{answerOf, AnswerHolds};
 ghost use Rattle.state.specs.State.{answersOf};
-ghost use Rattle.command.specs.Calling.{begunFrom, rememberedIn, CanFinish, Finished};
-use crate::Told;
+ghost use Rattle.command.specs.Calling.{begunFrom, rememberedIn, CanFinish, FinishedFrom};
+use crate::Noted;
 use crate::family;
 use answers::Answer;
 use answers::Form;
 use state::Controller;
+use state::Counters;
 use state::Recent;
+use state::Settings;
 
 // The state with one command more and the command's family set, which every command that is carried out begins with.
 pub fn begun(s: Controller, op: u16) -> Controller
@@ -25,18 +27,26 @@ pub fn begun(s: Controller, op: u16) -> Controller
     t
 }
 
-// The end of every command: its answer is remembered, and written to the front of out.
-pub fn finished(s: Controller, num: u8, op: u16, answer: Answer, out: &mut [u8]) -> Told
-    requires { ⌜ CanFinish s answer (now out) ⌝ }
-    ensures { λ r. ⌜ Finished num op (answerOf answer) s (now (out .entry)) r (now (out .exit)) ⌝ }
+// The end of every command, which left these counters and settings and found these last answers: its answer is remembered, and
+// written to the front of out.
+pub fn finished(
+    counters: Counters,
+    settings: Settings,
+    recent: Recent,
+    num: u8,
+    op: u16,
+    answer: Answer,
+    out: &mut [u8],
+) -> Noted
+    requires { ⌜ CanFinish recent answer (now out) ⌝ }
+    ensures { λ r. ⌜ FinishedFrom counters settings recent num op (answerOf answer) (now (out .entry)) r (now (out .exit)) ⌝ }
 {
-    let mut t = s;
-    let recent = remembered(s.recent, op, answer);
-    t.recent = recent;
+    let more = remembered(recent, op, answer);
     let written = answers::write_answer(answer, num, op, out);
-    Told {
-        number: 0,
-        state: t,
+    Noted {
+        counters,
+        settings,
+        recent: more,
         written,
     }
 }

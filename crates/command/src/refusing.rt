@@ -3,8 +3,8 @@ ghost use mathlib.Core.Path.{_≡_};
 ghost use Prim.Native.Nat.{_≤_};
 ghost use lib.ListN.{length};
 ghost use Rattle.commands.specs.Outcome.{Answers, Ready};
-ghost use Rattle.command.specs.Calling.{Gave, answeredBy, answerFor, countersFor, settingsFor};
-use crate::Told;
+ghost use Rattle.command.specs.Calling.{Gave, toldOf, answeredBy, answerFor, countersFor, settingsFor};
+use crate::Noted;
 use crate::course::Reason;
 use crate::family;
 use crate::record;
@@ -25,9 +25,9 @@ pub fn answered(
     reason: Reason,
     op: u16,
     out: &mut [u8],
-) -> Told
+) -> Noted
     requires { ⌜ Ready s profile × (71 ≤ length (now out)) ⌝ }
-    ensures { λ r. ⌜ Gave (answeredBy reason profile op) profile op s (now (out .entry)) r (now (out .exit)) ⌝ }
+    ensures { λ r. ⌜ Gave (answeredBy reason profile op) profile op s (now (out .entry)) (toldOf s r) (now (out .exit)) ⌝ }
 {
     let answer = answer_for(reason, profile, op);
     let counters = counters_for(reason, s.counters);
@@ -35,7 +35,15 @@ pub fn answered(
     let mut t = s;
     t.counters = counters;
     t.settings = settings;
-    record::finished(t, profile.num_command_packets, op, answer, out)
+    record::finished(
+        t.counters,
+        t.settings,
+        t.recent,
+        profile.num_command_packets,
+        op,
+        answer,
+        out,
+    )
 }
 
 // An unknown row is always a Command Complete.

@@ -22,7 +22,7 @@ use Rattle.command.specs.declared.Told.{Told}
 use Rattle.command.specs.declared.course.Reason.{Reason}
 use Rattle.command.specs.declared.course.Course.{Course}
 use Rattle.command.specs.declared.course.Course.the-variants as course
-use Rattle.command.specs.Calling.{answeredBy, carriedBy, ShapedProfile, CanCarry, Gave}
+use Rattle.command.specs.Calling.{answeredBy, carriedBy, CanCarry, Gave}
 use Rattle.calls.specs.Calls.{onPacket, Held, held}
 use Rattle.calls.specs.Gives.{Accepted, Gives, events, profileOf}
 use Rattle.receive.specs.declared.Task.{Task}
@@ -35,7 +35,7 @@ use Rattle.controller.proofs.Asking.{first-yes}
 
 -- questions 1 to 5 have the answer "yes"
 pub can-receive : (k : ControllerRow) (opcodes answers bits : List ℕ) (s : Controller) (pool out : List ℕ) {number : ℕ}
-    → number ≡ aboutPacket k opcodes answers bits s (length pool) (length out) → number ≡ 0 → CanReceive s k opcodes answers pool out
+    → number ≡ aboutPacket k opcodes answers bits (stateHolds s k) (length pool) (length out) → number ≡ 0 → CanReceive s k opcodes answers pool out
 can-receive k opcodes answers bits s pool out e z =
     let least = k .«acl_count» * placeSize k in
     let five = question 5 (leb 71 (length out)) ∷ [] in
@@ -63,7 +63,7 @@ parameters-whole c same = rw (c .read) at same
 
 module _ {k : ControllerRow} {opcodes answers bits address p : List ℕ} {random : ℕ} {s : Controller} {pool out : List ℕ} {number : ℕ} where
   -- one has "no"
-  pub receives-not : {r : Told} → number ≡ aboutPacket k opcodes answers bits s (length pool) (length out) → (number ≡ 0 → ⊥)
+  pub receives-not : {r : Told} → number ≡ aboutPacket k opcodes answers bits (stateHolds s k) (length pool) (length out) → (number ≡ 0 → ⊥)
       → (r .number ≡ number) × (r .state ≡ s) × (r .written ≡ 0)
       → Gives (profileOf k opcodes answers bits) (onPacket address random p) (held s pool) (held (r .state) pool) (events (r .number) (r .written) out out)
   receives-not e told same = record {
@@ -74,7 +74,7 @@ module _ {k : ControllerRow} {opcodes answers bits address p : List ℕ} {random
 
 -- none has: what the packet asks for decides
 module _ {k : ControllerRow} {opcodes answers : List ℕ} (bits address : List ℕ) (random : ℕ) {p : List ℕ} {s : Controller} {pool out : List ℕ} {number : ℕ}
-    (asked : number ≡ aboutPacket k opcodes answers bits s (length pool) (length out)) (none : number ≡ 0) where
+    (asked : number ≡ aboutPacket k opcodes answers bits (stateHolds s k) (length pool) (length out)) (none : number ≡ 0) where
   accepted : {t : Held} {told n : ℕ} {after : List ℕ} → told ≡ 0
       → Accepted (profileOf k opcodes answers bits) (onPacket address random p) (held s pool) t (events 0 n out after)
       → Gives (profileOf k opcodes answers bits) (onPacket address random p) (held s pool) t (events told n out after)
@@ -108,12 +108,13 @@ module _ {k : ControllerRow} {opcodes answers : List ℕ} (bits address : List �
         (accepted-command (c .first) (carries-course (λ h. carriedBy h op) c (c .courses .2) (rw (parameters-whole c same) at does)))
 
 -- what a command that is carried out counts on
-pub can-carry : {k : ControllerRow} {opcodes answers p q out : List ℕ} {s : Controller} {op : ℕ} {part : Part} → Ready s k → ShapedProfile k
+pub can-carry : {k : ControllerRow} {opcodes answers p q out : List ℕ} {s : Controller} {op : ℕ} {part : Part} → Ready s k
+    → length (k .«supported_commands») ≡ 64 → length (k .«lmp_features») ≡ 8 → length (k .«supported_states») ≡ 8
     → 71 ≤ length out → IsCommand opcodes answers (s .settings .«advertising_family») p op (course.Carried part)
     → q ≡ parametersOf (parseCommand p) p → CanCarry s k op part q out
-can-carry {p = p} ready shaped room c same = record {
+can-carry {p = p} ready commands features states room c same = record {
   ready = ready;
-  shaped = shaped;
+  shaped = record { commands = commands; features = features; states = states };
   listed = c .courses .0;
   sized = rw (ap length (parameters-whole c same) ∙ params-long p (c .read)) (c .courses .1);
   room = room;

@@ -31,10 +31,10 @@ abbrev pub aboutPool : ControllerRow → Controller → ℕ → ℕ
 aboutPool k s pool =
     firstNo (question 1 (withinLimits k) ∷ question 3 (stateHolds s k) ∷ question 4 (leb (k .«acl_count» * placeSize k) pool) ∷ [])
 
--- 1 to 5
-abbrev pub aboutPacket : ControllerRow → List ℕ → List ℕ → List ℕ → Controller → ℕ → ℕ → ℕ
-aboutPacket k opcodes answers bits s pool room =
-    firstNo (question 1 (withinLimits k) ∷ question 2 (rowsFit opcodes answers bits) ∷ question 3 (stateHolds s k)
+-- 1 to 5, of which the third has this answer
+abbrev pub aboutPacket : ControllerRow → List ℕ → List ℕ → List ℕ → Bool → ℕ → ℕ → ℕ
+aboutPacket k opcodes answers bits holds pool room =
+    firstNo (question 1 (withinLimits k) ∷ question 2 (rowsFit opcodes answers bits) ∷ question 3 holds
     ∷ question 4 (leb (k .«acl_count» * placeSize k) pool) ∷ question 5 (leb 71 room) ∷ [])
 
 -- a notice's answer: no acknowledgement, an event of at most 37 octets behind it, and a buffer that question 5 was asked of

@@ -1,11 +1,21 @@
-// Packets from the host. Each way through `on_packet` returns by itself: the compiler then has each function that makes a new state
-// write it where the caller finds it, and copies it once less (docs/SPEED.md).
+// Packets from the host. Each way through `on_packet` returns by itself and puts the state together where it returns: the compiler
+// then writes it where the caller finds it, and copies it no more often than it must (docs/SPEED.md).
 ghost use mathlib.Core.Path.{_≡_};
 ghost use Rattle.calls.specs.Calls as call;
 ghost use Rattle.calls.specs.Calls.{held};
 ghost use Rattle.calls.specs.Gives.{Gives, events, profileOf};
 use crate::Told;
-use crate::questions;
+use crate::questions::about_packet;
+use command::answered;
+use command::change_accept_list;
+use command::change_links;
+use command::change_resolving_list;
+use command::read;
+use command::reset;
+use command::set_advertising;
+use command::set_masks;
+use command::set_scanning;
+use command::set_settings;
 use dispatch::Part;
 use profile::ControllerRow;
 use receive::Task;
@@ -27,7 +37,8 @@ pub fn on_packet(
 ) -> Told
     ensures { λ r. ⌜ Gives (profileOf profile (now (opcodes .entry)) (now (answers .entry)) (now (bits .entry))) (call.onPacket address random (now (packet .entry))) (held s (now (pool .entry))) (held (r .state) (now (pool .exit))) (events (r .number) (r .written) (now (out .entry)) (now (out .exit))) ⌝ }
 {
-    let number = questions::about_packet(profile, opcodes, answers, bits, s, pool.len(), out.len());
+    let held = state::holds(s, profile);
+    let number = about_packet(profile, opcodes, answers, bits, held, pool.len(), out.len());
     if number != 0 {
         return unchanged(number, s);
     }
@@ -36,18 +47,31 @@ pub fn on_packet(
     match task {
         Task::Nothing => return unchanged(0, s),
         Task::Data => return receive::data(s, profile, pool, packet),
-        Task::Answered(op, reason) => return command::answered(s, profile, reason, op, out),
+        Task::Answered(op, reason) => return answered(s, profile, reason, op, out).told(s),
         Task::Carried(op, part) => match part {
-            Part::Nothing => return command::read(s, profile, address, random, op, p, out),
-            Part::Masks => return command::set_masks(s, profile, op, p, out),
-            Part::Settings => return command::set_settings(s, profile, op, p, out),
-            Part::Advertising => return command::set_advertising(s, profile, op, p, out),
-            Part::Scanning => return command::set_scanning(s, profile, op, p, out),
-            Part::AcceptList => return command::change_accept_list(s, profile, op, p, out),
-            Part::ResolvingList => return command::change_resolving_list(s, profile, op, p, out),
-            Part::Links => return command::change_links(s, profile, op, p, out),
-            Part::Everything => return command::reset(s, profile, op, p, out),
+            Part::Nothing => return read(s, profile, address, random, op, p, out).told(s),
+            Part::Masks => return set_masks(s, profile, op, p, out).told(s),
+            Part::Settings => return set_settings(s, profile, op, p, out).told(s),
+            Part::Advertising => return set_advertising(s, profile, op, p, out).told(s),
+            Part::Scanning => return set_scanning(s, profile, op, p, out).told(s),
+            Part::AcceptList => return change_accept_list(s, profile, op, p, out).told(s),
+            Part::ResolvingList => return change_resolving_list(s, profile, op, p, out).told(s),
+            Part::Links => return change_links(s, profile, op, p, out).told(s),
+            Part::Everything => return same(reset(s, profile, op, p, out)),
         },
+    }
+}
+
+// What is told, once more. Were it handed on as it is, the compiler would keep a place for the whole of it in `on_packet`, and copy
+// it from there whatever the command.
+fn same(told: Told) -> Told
+    ensures { λ r. ⌜ r ≡ told ⌝ }
+{
+    let state = told.state;
+    Told {
+        number: told.number,
+        state,
+        written: told.written,
     }
 }
 

@@ -57,17 +57,18 @@ pub fn about_pool(profile: ControllerRow, s: Controller, pool: usize) -> u8
     0
 }
 
-// 1, 2: are the rows' slices equally long, at most 256, answers at most 2?, 3, 4 and 5.
+// 1, 2: are the rows' slices equally long, at most 256, answers at most 2?, 3, to which `held` is the answer, 4 and 5. `on_packet`
+// asks question 3 itself: the state would be copied to be handed on from here (docs/SPEED.md).
 pub fn about_packet(
     profile: ControllerRow,
     opcodes: &[u16],
     answers: &[u8],
     bits: &[u16],
-    s: Controller,
+    held: bool,
     pool: usize,
     room: usize,
 ) -> u8
-    ensures { λ r. ⌜ r ≡ aboutPacket profile (now (opcodes .entry)) (now (answers .entry)) (now (bits .entry)) s pool room ⌝ }
+    ensures { λ r. ⌜ r ≡ aboutPacket profile (now (opcodes .entry)) (now (answers .entry)) (now (bits .entry)) held pool room ⌝ }
 {
     if !profile::within_limits(profile) {
         return 1;
@@ -75,7 +76,7 @@ pub fn about_packet(
     if !profile::rows_fit(opcodes, answers, bits) {
         return 2;
     }
-    if !state::holds(s, profile) {
+    if !held {
         return 3;
     }
     if !pool_fits(profile, pool) {

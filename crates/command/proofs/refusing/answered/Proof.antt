@@ -1,4 +1,5 @@
 -- `command::answered` meets its contract.
+use mathlib.Core.Path.{refl}
 use Rattle.command.proofs.Giving.{gave}
 use Rattle.command.proofs.Reasons.{answer-modest, reason-outcome, reason-holds}
 use borrow.Author.Needs.{needs}
@@ -20,7 +21,7 @@ finished-requires c κs =
     let s = c .before .before .before .before .before in
     let answer = c .before .before .before .answer-for .ensures in
     record {
-      recent = s .pre .0 .holds .recent;
+      few = s .pre .0 .holds .recent;
       holds = answer .shaped;
       modest = answer-modest (s .args .reason) (s .args .profile) (s .args .op) answer;
       room = s .pre .1;
@@ -36,7 +37,7 @@ returns c =
     let counted = c .before .before .before .before .before .counters-for .ensures in
     let set = c .before .before .before .before .settings-for .ensures in
     gave (reason-outcome reason (s .args .profile) (s .args .op) (s .args .s) counted set (c .before .before .before .before .before .before .answer-for .ensures))
-    (reason-holds reason (s .args .profile) (s .args .op) (s .args .s) counted set (s .pre .0 .holds)) (c .before .before .finished .ensures)
+    (reason-holds reason (s .args .profile) (s .args .op) (s .args .s) counted set (s .pre .0 .holds)) (c .before .before .finished .ensures _ refl refl refl)
 
 pub answered-spec : {M : Type 1} → statement M
 answered-spec =

@@ -1,5 +1,6 @@
 -- `command::set_masks` meets its contract.
 use mathlib.Core.Path.{refl}
+use Rattle.commands.specs.Put.{putMasks}
 use Rattle.command.proofs.Giving.{can-dispatch, can-finish, carried, sets-masks, noAddress}
 use borrow.Author.Needs.{needs}
 use Rattle.command.proofs.setting.set_masks.Statement.{statement}
@@ -19,7 +20,7 @@ finished-requires : tie.Need-finished-requires
 finished-requires c κs =
     let s = c .before .before .before .before .before .before in
     let begun = c .before .before .before .begun .ensures in
-    can-finish (s .pre) begun noAddress 0 _ (sets-masks (can-dispatch (s .pre) begun .0) (c .before .done .ensures) (c .before .before .masks .ensures noAddress 0)) refl
+    can-finish (s .pre) begun noAddress 0 (putMasks (c .before .before .masks .result)) _ (sets-masks (can-dispatch (s .pre) begun .0) (c .before .done .ensures) (c .before .before .masks .ensures noAddress 0)) refl
 
 same-length : tie.Need-same-length
 same-length c = search needs
@@ -28,7 +29,7 @@ returns : tie.Need-returns
 returns c = λ address random.
     let s = c .before .before .before .before .before .before .before .before .before in
     let begun = c .before .before .before .before .before .before .begun .ensures in
-    carried (s .pre) begun address random _ (sets-masks (can-dispatch (s .pre) begun .0) (c .before .before .before .before .done .ensures) (c .before .before .before .before .before .masks .ensures address random)) (c .before .before .finished .ensures)
+    carried (s .pre) begun address random (putMasks (c .before .before .before .before .before .masks .result)) _ (sets-masks (can-dispatch (s .pre) begun .0) (c .before .before .before .before .done .ensures) (c .before .before .before .before .before .masks .ensures address random)) (c .before .before .finished .result) refl (c .before .before .finished .ensures)
 
 pub set-masks-spec : {M : Type 1} → statement M
 set-masks-spec =

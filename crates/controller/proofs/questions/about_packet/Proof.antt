@@ -1,6 +1,6 @@
 -- `controller::questions::about_packet` meets its contract.
 use borrow.Author.Needs.{needs}
-use borrow.Author.Tests.{le-leb, lt-leb}
+use borrow.Author.Tests.{not-true, not-false, le-leb, lt-leb}
 use Rattle.state.proofs.Holding.{passed, failed}
 use Rattle.calls.specs.Calls.{firstNo}
 use Rattle.controller.proofs.questions.about_packet.Statement.{statement}
@@ -22,18 +22,15 @@ returns-2 c =
     let b = c .before .before in
     rw (passed (b .before .within-limits .ensures) (b .if1 .left), failed (c .before .rows-fit .ensures) (c .if2 .taken))
 
-holds-requires : tie.Need-holds-requires
-holds-requires c κs = search needs
-
 returns-3 : tie.Need-returns-3
 unfolding firstNo
 returns-3 c =
-    let b2 = c .before .before in
+    let b2 = c .before in
     let b1 = b2 .before .before in
     rw (
       passed (b1 .before .within-limits .ensures) (b1 .if1 .left),
       passed (b2 .before .rows-fit .ensures) (b2 .if2 .left),
-      failed (c .before .holds .ensures) (c .if3 .taken),
+      not-true (b1 .before .before .before .before .before .args .held) (c .if3 .taken),
     )
 
 pool-fits-requires : tie.Need-pool-fits-requires
@@ -43,12 +40,12 @@ returns-4 : tie.Need-returns-4
 unfolding firstNo
 returns-4 c =
     let b3 = c .before .before in
-    let b2 = b3 .before .before in
+    let b2 = b3 .before in
     let b1 = b2 .before .before in
     rw (
       passed (b1 .before .within-limits .ensures) (b1 .if1 .left),
       passed (b2 .before .rows-fit .ensures) (b2 .if2 .left),
-      passed (b3 .before .holds .ensures) (b3 .if3 .left),
+      not-false (b1 .before .before .before .before .before .args .held) (b3 .if3 .left),
       failed (c .before .pool-fits .ensures) (c .if4 .taken),
     )
 
@@ -57,12 +54,12 @@ unfolding firstNo
 returns-5 c =
     let b4 = c .before in
     let b3 = b4 .before .before in
-    let b2 = b3 .before .before in
+    let b2 = b3 .before in
     let b1 = b2 .before .before in
     rw (
       passed (b1 .before .within-limits .ensures) (b1 .if1 .left),
       passed (b2 .before .rows-fit .ensures) (b2 .if2 .left),
-      passed (b3 .before .holds .ensures) (b3 .if3 .left),
+      not-false (b1 .before .before .before .before .before .args .held) (b3 .if3 .left),
       passed (b4 .before .pool-fits .ensures) (b4 .if4 .left),
       lt-leb _ _ (c .if5 .taken),
     )
@@ -72,12 +69,12 @@ unfolding firstNo
 returns-6 c =
     let b4 = c .before in
     let b3 = b4 .before .before in
-    let b2 = b3 .before .before in
+    let b2 = b3 .before in
     let b1 = b2 .before .before in
     rw (
       passed (b1 .before .within-limits .ensures) (b1 .if1 .left),
       passed (b2 .before .rows-fit .ensures) (b2 .if2 .left),
-      passed (b3 .before .holds .ensures) (b3 .if3 .left),
+      not-false (b1 .before .before .before .before .before .args .held) (b3 .if3 .left),
       passed (b4 .before .pool-fits .ensures) (b4 .if4 .left),
       le-leb _ _ (c .if5 .left),
     )
@@ -90,7 +87,6 @@ about-packet-spec =
     returns
     rows-fit-requires
     returns-2
-    holds-requires
     returns-3
     pool-fits-requires
     returns-4
