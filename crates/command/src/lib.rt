@@ -81,3 +81,9 @@ pub struct LinksChanged {
     pub noted: Noted,
     pub links: Links,
 }
+
+// After a Reset: all else is the state's.
+pub struct Restarted {
+    pub noted: Noted,
+    pub state: Controller,
+}

@@ -9,6 +9,7 @@ use crate::LinksChanged;
 use crate::MasksSet;
 use crate::Noted;
 use crate::ResolvingListChanged;
+use crate::Restarted;
 use crate::ScanningSet;
 use crate::Told;
 use state::Controller;
@@ -102,5 +103,15 @@ impl LinksChanged {
         t.links = links;
         let noted = self.noted;
         noted.told(t)
+    }
+}
+
+impl Restarted {
+    pub fn told(self) -> Told
+        ensures { λ r. ⌜ r ≡ toldOf (self .state) (self .noted) ⌝ }
+    {
+        let state = self.state;
+        let noted = self.noted;
+        noted.told(state)
     }
 }

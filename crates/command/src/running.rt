@@ -10,7 +10,7 @@ use crate::AcceptListChanged;
 use crate::LinksChanged;
 use crate::Noted;
 use crate::ResolvingListChanged;
-use crate::Told;
+use crate::Restarted;
 use crate::record;
 use profile::ControllerRow;
 use state::Controller;
@@ -129,21 +129,21 @@ pub fn change_links(
 }
 
 // Reset.
-pub fn reset(s: Controller, profile: ControllerRow, op: u16, p: &[u8], out: &mut [u8]) -> Told
+pub fn reset(s: Controller, profile: ControllerRow, op: u16, p: &[u8], out: &mut [u8]) -> Restarted
     requires { ⌜ CanCarry s profile op part.Everything (now p) (now out) ⌝ }
-    ensures { λ r. ⌜ ((address : List ℕ) (random : ℕ) → Gave (carriedBy (given profile address random (now (p .entry))) op) profile op s (now (out .entry)) r (now (out .exit))) ⌝ }
+    ensures { λ r. ⌜ ((address : List ℕ) (random : ℕ) → Gave (carriedBy (given profile address random (now (p .entry))) op) profile op s (now (out .entry)) (toldOf (r .state) (r .noted)) (now (out .exit))) ⌝ }
 {
     let r = dispatch::everything(record::begun(s, op));
     let answer = r.answer;
-    let t = r.state;
+    let state = r.state;
     let noted = record::finished(
-        t.counters,
-        t.settings,
-        t.recent,
+        state.counters,
+        state.settings,
+        state.recent,
         profile.num_command_packets,
         op,
         answer,
         out,
     );
-    noted.told(t)
+    Restarted { noted, state }
 }

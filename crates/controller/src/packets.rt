@@ -57,21 +57,8 @@ pub fn on_packet(
             Part::AcceptList => return change_accept_list(s, profile, op, p, out).told(s),
             Part::ResolvingList => return change_resolving_list(s, profile, op, p, out).told(s),
             Part::Links => return change_links(s, profile, op, p, out).told(s),
-            Part::Everything => return same(reset(s, profile, op, p, out)),
+            Part::Everything => return reset(s, profile, op, p, out).told(),
         },
-    }
-}
-
-// What is told, once more. Were it handed on as it is, the compiler would keep a place for the whole of it in `on_packet`, and copy
-// it from there whatever the command.
-fn same(told: Told) -> Told
-    ensures { λ r. ⌜ r ≡ told ⌝ }
-{
-    let state = told.state;
-    Told {
-        number: told.number,
-        state,
-        written: told.written,
     }
 }
 

@@ -25,18 +25,14 @@ finished-requires c κs =
 same-length : tie.Need-same-length
 same-length c = search needs
 
-told-requires : tie.Need-told-requires
-told-requires c κs = search needs
-
 returns : tie.Need-returns
 returns c = λ address random.
-    let s = c .before .before .before .before .before .before .before .before .before .before .before in
-    let begun = c .before .before .before .before .before .before .before .before .begun .ensures in
-    let r = c .before .before .before .before .before .before .before .everything in
+    let s = c .before .before .before .before .before .before .before .before .before .before in
+    let begun = c .before .before .before .before .before .before .before .begun .ensures in
+    let r = c .before .before .before .before .before .before .everything in
     let can = can-dispatch (s .pre) begun in
-    rw (c .told .ensures)
-    (carried (s .pre) begun address random (λ (z : Controller). r .result .state) _ (r .ensures (s .args .profile) address random (s .args .op) _ (now (s .args .p)) (can .0) (can .1)) (c .before .before .before .finished .result) refl (c .before .before .before .finished .ensures))
+    carried (s .pre) begun address random (λ (z : Controller). r .result .state) _ (r .ensures (s .args .profile) address random (s .args .op) _ (now (s .args .p)) (can .0) (can .1)) (c .before .before .finished .result) refl (c .before .before .finished .ensures)
 
 pub reset-spec : {M : Type 1} → statement M
 reset-spec =
-    tie.close (tie.spec begun-requires everything-requires finished-requires told-requires same-length returns)
+    tie.close (tie.spec begun-requires everything-requires finished-requires same-length returns)

@@ -299,8 +299,8 @@ reset-requires c κs =
     can-carry (can .store .ready) (search (needs, s .good .0 .1 .1 .1 .1 .1 .1 .1 .0)) (search (needs, s .good .0 .1 .1 .1 .1 .1 .1 .1 .1 .0)) (search (needs, s .good .0 .1 .1 .1 .1 .1 .1 .1 .1 .1 .1 .0)) (can .room)
     (is-carried (now (s .args .opcodes)) (now (s .args .answers)) _ _ (c .before .before .before .before .before .before .before .task-of .ensures) (c .before .before .before .before .task2 .given .1) (c .before .enum-told11 .given .1)) (c .before .before .before .before .before .before .parameters .ensures)
 
-same-requires : tie.Need-same-requires
-same-requires c κs = search needs
+told-requires-10 : tie.Need-told-requires-10
+told-requires-10 c κs = search needs
 
 same-length-11 : tie.Need-same-length-11
 same-length-11 c = search needs
@@ -309,7 +309,7 @@ returns-13 : tie.Need-returns-13
 returns-13 c =
     let q = c .before .before .before .before .before .before .before .before .before .before .before .before in
     let s = q .before .before .before .before .before .before .before .before .before in
-    rw (c .same .ensures)
+    rw (c .told10 .ensures)
     (gives-carried (now (s .args .bits)) (s .args .address) (s .args .random) (rw (q .before .before .holds .ensures) at (q .before .about-packet .ensures)) (q .if1 .left)
     (is-carried (now (s .args .opcodes)) (now (s .args .answers)) _ _ (c .before .before .before .before .before .before .before .before .before .before .before .task-of .ensures) (c .before .before .before .before .before .before .before .before .task2 .given .1) (c .before .before .before .before .before .enum-told11 .given .1)) (c .before .before .before .before .before .before .before .before .before .before .parameters .ensures) (c .before .before .before .reset .ensures (s .args .address) (s .args .random)))
 
@@ -378,6 +378,6 @@ on-packet-spec =
     returns-12
     enum-told-11
     reset-requires
-    same-requires
+    told-requires-10
     same-length-11
     returns-13)
