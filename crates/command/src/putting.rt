@@ -1,5 +1,5 @@
-// The state after a command, put together from what the command changed. The functions that carry a command out give those parts
-// alone: were the whole state to go through them, it would be copied twice more (docs/SPEED.md).
+// The state after a command, put together from what the command changed. The functions that carry a command out, but for Reset, which
+// changes everything, give those parts alone: were the whole state to go through them, it would be copied twice more (docs/SPEED.md).
 ghost use mathlib.Core.Path.{_≡_};
 ghost use Rattle.commands.specs.Put.{putMasks, putAdvertising, putScanning, putAcceptList, putResolvingList, putLinks};
 ghost use Rattle.command.specs.Calling.{toldOf};
