@@ -17,7 +17,7 @@ const HEADER: &[u8] = b"H\t1\n";
 const ROOM: usize = 512;
 
 /// Each opcode that `param_len` names is modelled, 0x2036 unmodelled, 0x0C05 unknown.
-fn bench_profile() -> BleProfile {
+pub fn bench_profile() -> BleProfile {
     let row = |opcode, answer| CommandRow { opcode, answer, supported: None };
     let mut commands: Vec<_> = OPCODES.iter().map(|(op, _)| row(*op, Answering::Modeled)).collect();
     commands.push(row(0x2036, Answering::Unmodeled));
@@ -98,7 +98,7 @@ fn number(field: &[u8]) -> Option<u16> {
 }
 
 /// Lower-case hex pairs.
-fn packet(field: &[u8]) -> Option<Vec<u8>> {
+pub fn packet(field: &[u8]) -> Option<Vec<u8>> {
     let pairs = field.chunks_exact(2);
     if field.len() > LONGEST_PACKET || !pairs.remainder().is_empty() {
         return None;

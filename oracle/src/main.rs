@@ -7,6 +7,7 @@ mod counts;
 mod dump;
 mod exhaust;
 mod generate;
+mod inputs;
 mod lines;
 mod octets;
 mod opcodes;
@@ -42,6 +43,7 @@ const CALLS: u64 = 10_000_000;
 const SECONDS: u64 = 1_800;
 const SEED: u64 = 1;
 const USAGE: &str = "usage: oracle [calls] [seconds] [seed] | oracle sample FOLDER | oracle lines
+     | oracle departures | oracle conditions
      | oracle speed [times] | oracle speed-once source|port SCENARIO TURNS | oracle scenarios";
 
 fn main() -> ExitCode {
@@ -50,6 +52,8 @@ fn main() -> ExitCode {
     match words[..] {
         ["sample", folder] => write_sample(Path::new(folder)),
         ["lines"] => print_lines(),
+        ["departures"] => return inputs::print(inputs::DEPARTURES),
+        ["conditions"] => return inputs::print(inputs::CONDITIONS),
         ["scenarios"] => speed::list(),
         ["speed"] => return print_speed(speed::TIMES),
         ["speed", times] => return times.parse().map_or_else(|_| usage(), print_speed),
