@@ -1,6 +1,7 @@
 /* The C calls of the bay radio's LE controller (crates/capi). Lists of records go in as octets, answers come out as octets; each
  * call runs from the default state. Both are total: any octets and any buffers get an answer, and a call returns how many octets
- * it wrote to the front of out. The buffers must be valid for their lengths and must not overlap; that is all that is asked. */
+ * it wrote to the front of out. The buffers must be valid for their lengths and must not overlap; that is all that is asked.
+ * docs/REFUSALS.md lists the refusal numbers that answers carry. */
 #ifndef WEGRULSTA_H
 #define WEGRULSTA_H
 

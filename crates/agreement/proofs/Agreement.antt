@@ -12,7 +12,7 @@ use Rattle.state.specs.Holding.{placeSize}
 use Rattle.calls.specs.Packets.{Profile}
 use Rattle.calls.specs.Calls.{Call, onPacket, takeTransmit, openConnection, completed, dropInFlight, acceptConnection, peerUpdate, requestLtk, completeDisconnect, remoteDisconnect, advertisingTimeout, Held, held}
 use Rattle.calls.specs.Gives.{Answer, Gives}
-use Rattle.credits.proofs.Steps as steps
+use Rattle.credits.specs.Steps as steps
 use Rattle.credits.proofs.Credits.{credits, stateOf}
 use Rattle.agreement.specs.Agreement.{TypedProfile, Typed, Called, buffersOf, FiltersHold, limitsOf, reading, Demand3}
 use Rattle.agreement.proofs.Rules.{unmasked, Good, FollowsRule}

@@ -1,21 +1,19 @@
 -- An accepted call as its definition gives it, without the code's arrays and buffers: what is to be shown of a definition so that
 -- the call follows a rule of credits. For the proof of demand 3.
-use Prim.Native.Nat.{ℕ, _<_}
+use Prim.Native.Nat.{ℕ}
 use mathlib.Core.Path.{_≡_, sym, ap, subst, _∙_}
 use mathlib.Core.Bool.{true}
-use mathlib.Core.List.{List, [], _∷_}
-use native.Mathlib.Omega.{arith}
+use mathlib.Core.List.{List}
 use lib.Dec.{eqb}
 use lib.ListN.{take}
-use borrow.Table.Steps.{cases}
 use Rattle.octets.proofs.Writing.{put-front}
 use Rattle.state.specs.State.{Model}
 use Rattle.commands.specs.Following.{enabledBy}
 use Rattle.calls.specs.Packets.{Profile}
-use Rattle.calls.specs.Calls.{Call, Held, modelOf, Question, firstNo, replyTo, takenBy}
+use Rattle.calls.specs.Calls.{Call, Held, modelOf, replyTo, takenBy}
 use Rattle.calls.specs.Gives.{Answer, Gives}
 use Rattle.credits.specs.Credits as book
-use Rattle.credits.proofs.Steps as steps
+use Rattle.credits.specs.Steps as steps
 use Rattle.agreement.specs.Agreement.{callFed, answerFed, opensLink, eventOctets, eventsFed, buffersOf, limitsOf}
 use Rattle.agreement.proofs.Rules.{FollowsRule}
 
@@ -49,15 +47,3 @@ pub by-events : (g : Profile) (c : Call) {s t : Held} {a : Answer} → Gives g c
     → FollowsRule g c s t a
 by-events g c {s} x z e step =
     by-definition g c x z (replyTo g c (modelOf g s) .octets) (e ∙ put-front (x .accepted z .written)) step
-
--- ---- the questions of an accepted call: each has a "yes", as its number is not 0
-
-abbrev pub AllYes : List Question → Type 0
-AllYes [] = Unit {0}
-AllYes (q ∷ l) = 0 < q .number → (q .yes ≡ true) × AllYes l
-
-pub all-yes : (l : List Question) → firstNo l ≡ 0 → AllYes l
-unfolding firstNo
-all-yes [] e = tt
-all-yes (q ∷ l) e = λ h.
-    cases (q .yes) (λ y. (y, all-yes l (rw y at e))) (λ n. absurd (let z : q .number ≡ 0 = rw n at e in omega arith))

@@ -29,7 +29,7 @@ use Rattle.commands.specs.Leaves.{Shaped, Leaves, IsReset, setsEventMask}
 use Rattle.commands.proofs.CommandLeaves.{command-leaves, row-answer-most}
 use Rattle.calls.specs.Packets.{Profile, Reply, reply, byCommand}
 use Rattle.credits.specs.Credits as book
-use Rattle.credits.proofs.Steps as steps
+use Rattle.credits.specs.Steps as steps
 use Rattle.agreement.specs.Agreement.{eventsFed, commandFed, TypedProfile, buffersOf}
 use Rattle.agreement.proofs.Splitting.{fed-nothing}
 use Rattle.agreement.proofs.Replying.{ReplyFollows}

@@ -13,8 +13,8 @@ use Rattle.state.specs.State.{Model, countPacket}
 use Rattle.commands.specs.Parts.{withLinks, withCounters}
 use Rattle.calls.specs.Packets.{Profile, reply, accepts, headerOf, stored, discarded, dataPacket}
 use Rattle.credits.specs.Credits.{Buffers}
-use Rattle.credits.proofs.Steps as steps
-use Rattle.credits.proofs.Steps.{fits}
+use Rattle.credits.specs.Steps as steps
+use Rattle.credits.specs.Steps.{fits}
 use Rattle.agreement.specs.Agreement.{dataFed, limitsOf, buffersOf}
 use Rattle.agreement.proofs.Splitting.{fed-nothing}
 use Rattle.agreement.proofs.ByDefinition.{seen}

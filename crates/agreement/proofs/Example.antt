@@ -9,11 +9,12 @@ use lib.Dec.{leb, lit<, lit≤}
 use lib.ListN.{length}
 use borrow.Author.Tests.{leb-true}
 use Rattle.octets.specs.Octets.{splice}
-use Rattle.lists.specs.Lists.{firstAt, any, all, keep, taken, leaving, distinctBy, chunks}
+use Rattle.lists.specs.Lists.{firstAt, any, all, keep, taken, leaving, updateFirst, distinctBy, chunks}
 use Rattle.hci.specs.Read.{parseCommand, parseAcl}
 use Rattle.hci.specs.Packet.{pairs}
 use Rattle.profile.specs.Profile.{withinLimits, rowsFit}
-use Rattle.links.specs.Links.{ended, openedLast, enqueued, takenFrom, afterTaking, settled}
+use Rattle.links.specs.Links.{ended, openedLast, enqueued, takenFrom, afterTaking, settled, changed}
+use Rattle.links.specs.Look.{connectionOf}
 use Rattle.links.specs.Holding.{linksHold}
 use Rattle.links.proofs.Keeping.{empty-holds}
 use Rattle.state.specs.State.{Model, remember}
@@ -23,6 +24,7 @@ use Rattle.state.proofs.Keeping.{accept-empty, resolving-empty}
 use Rattle.state.proofs.Fresh.{settings-fresh}
 use Rattle.commands.specs.Command.{familyOf, otherFamily, modelled, listedRow, byRow, command}
 use Rattle.commands.specs.Table.{find}
+use Rattle.commands.specs.Following.{leEvent, connectionFailed}
 use Rattle.commands.specs.Known as known
 use Rattle.notices.specs.Notices as notices
 use Rattle.calls.specs.Packets.{Profile, dataPacket, queues}
@@ -111,14 +113,18 @@ _and_ p q = (p, q)
 
 -- ---- the contracts allow the run
 pub run-chained : Chained (Called benchProfile) (held start pool) run
-unfolding firstAt any all keep taken leaving distinctBy chunks splice flatten parseCommand parseAcl pairs
+unfolding firstAt any all keep taken leaving updateFirst distinctBy chunks splice flatten parseCommand parseAcl pairs
     withinLimits rowsFit linksHold acceptHolds resolvingHolds advertisingHolds settingsHold ownPartsHold stateHolds firstNo
-    ended openedLast enqueued takenFrom afterTaking settled remember
-    notices.openConnection notices.completed notices.dropInFlight notices.remoteDisconnect
-    packets.onPacket dataPacket queues familyOf otherFamily modelled listedRow byRow command find known.setEventMask known.reset
+    ended openedLast enqueued takenFrom afterTaking settled changed connectionOf remember leEvent connectionFailed
+    notices.openConnection notices.connectionComplete notices.acceptConnection notices.peerUpdate notices.requestLtk
+    notices.advertisingTimeout notices.completed notices.dropInFlight notices.remoteDisconnect notices.completeDisconnect
+    packets.onPacket dataPacket queues familyOf otherFamily modelled listedRow byRow command find
+    known.reasonAllowed known.disconnect known.setEventMask known.reset
 run-chained =
-    made (lit< tt) refl refl refl
+    made (refl, refl) refl refl refl
+    and made tt refl refl refl
     and made (lit< tt) refl refl refl
+    and made (lit< tt, refl) refl refl refl
     and made (refl, refl) refl refl (record { place = 0; within = lit< tt; free = refl; stored = refl })
     and made (refl, refl) refl refl (record { place = 1; within = lit< tt; free = refl; stored = refl })
     and made (lit< tt) refl refl refl
@@ -126,8 +132,12 @@ run-chained =
     and made (lit< tt, lit< tt) refl refl refl
     and refused (refl, refl) refl (lit< tt) (record { same = refl; buffer = refl; nothing = (refl, refl) })
     and made (lit< tt) refl refl refl
+    and made (lit< tt, refl) refl refl refl
     and made (lit< tt) refl refl refl
+    and made (lit< tt) refl refl refl
+    and made (refl, refl) refl refl (record { place = 0; within = lit< tt; free = refl; stored = refl })
     and made (refl, refl) refl refl refl
+    and made (lit< tt) refl refl refl
     and made (refl, refl) refl refl refl
     and made (lit< tt) refl refl refl
     and made (refl, refl) refl refl (record { place = 0; within = lit< tt; free = refl; stored = refl })

@@ -16,8 +16,7 @@ use Rattle.links.specs.Links.{Model, hasHandle, packetFor, has, canOpen, inUse,
 use Rattle.links.specs.Fields.{withParameters, withLtkRequested}
 use Rattle.links.specs.Holding.{handleOf}
 use Rattle.credits.specs.Credits as credits
-use Rattle.credits.proofs.Handles as handles
-use Rattle.credits.proofs.Steps as steps
+use Rattle.credits.specs.Steps as steps
 use Rattle.agreement.specs.Agreement.{ownerOf}
 
 -- what `buffersOf` reads of a state, of its links alone
@@ -26,7 +25,7 @@ buffersIn m = record { handles = map handleOf (m .connections); waiting = map ow
 
 -- ---- looking
 
-pub has-handle : (h : ℕ) (m : Model) → handles.has h (buffersIn m .handles) ≡ has h (m .connections)
+pub has-handle : (h : ℕ) (m : Model) → steps.has h (buffersIn m .handles) ≡ has h (m .connections)
 has-handle h m = any-map handleOf (λ x. eqb x h) (m .connections)
 
 pub in-use : (m : Model) → credits.inUse (buffersIn m) ≡ inUse m

@@ -24,14 +24,15 @@ use Rattle.notices.proofs.Telling.{acceptConnection-tells, peerUpdate-tells, re
 use Rattle.calls.specs.Packets.{Profile}
 use Rattle.calls.specs.Calls.{Call, Held, modelOf, questions}
 use Rattle.calls.specs.Gives.{Answer, Gives}
+use Rattle.calls.proofs.Questions.{all-yes}
 use Rattle.credits.specs.Credits as book
 use Rattle.credits.specs.Credits.{Buffers}
-use Rattle.credits.proofs.Steps as steps
+use Rattle.credits.specs.Steps as steps
 use Rattle.agreement.specs.Agreement.{eventsFed, reports, Word, Typed, buffersOf, limitsOf}
 use Rattle.agreement.proofs.Rules.{FollowsRule}
 use Rattle.agreement.proofs.Splitting.{fed-nothing, fed-one}
 use Rattle.agreement.proofs.Links.{has-handle, can-open, given-follows, ended-follows, opened-follows, taken-follows, settled-follows, parameters-follow, requested-follows}
-use Rattle.agreement.proofs.ByDefinition.{seen, answered, by-definition, by-events, all-yes}
+use Rattle.agreement.proofs.ByDefinition.{seen, answered, by-definition, by-events}
 
 -- ---- what the book reads of a notice's events
 

@@ -18,12 +18,13 @@ use Rattle.calls.specs.Packets.{Profile}
 use Rattle.calls.specs.Packets as packets
 use Rattle.calls.specs.Calls.{onPacket, Held, modelOf, questions}
 use Rattle.calls.specs.Gives.{Answer, Gives}
+use Rattle.calls.proofs.Questions.{all-yes}
 use Rattle.credits.specs.Credits as book
-use Rattle.credits.proofs.Steps as steps
+use Rattle.credits.specs.Steps as steps
 use Rattle.agreement.specs.Agreement.{packetFed, commandFed, Typed, TypedProfile}
 use Rattle.agreement.proofs.Rules.{Good, FollowsRule}
 use Rattle.agreement.proofs.Splitting.{fed-nothing}
-use Rattle.agreement.proofs.ByDefinition.{by-events, all-yes}
+use Rattle.agreement.proofs.ByDefinition.{by-events}
 use Rattle.agreement.proofs.Replying.{ReplyFollows}
 use Rattle.agreement.proofs.DataFollows.{data-follows}
 use Rattle.agreement.proofs.CommandFollows.{command-follows}

@@ -2,7 +2,7 @@
 use Rattle.state.specs.State.{Model}
 use Rattle.calls.specs.Packets.{Profile, Reply}
 use Rattle.credits.specs.Credits as book
-use Rattle.credits.proofs.Steps.{Step, events}
+use Rattle.credits.specs.Steps.{Step, events}
 use Rattle.agreement.specs.Agreement.{eventsFed, limitsOf}
 use Rattle.agreement.proofs.ByDefinition.{seen}
 

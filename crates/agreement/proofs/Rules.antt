@@ -1,11 +1,11 @@
--- What is to be shown of one accepted call: that it follows a rule of `Rattle.credits.proofs.Steps`. For the proof of demand 3.
+-- What is to be shown of one accepted call: that it follows a rule of `Rattle.credits.specs.Steps`. For the proof of demand 3.
 use mathlib.Core.Bool.{Bool}
 use Rattle.state.specs.Holding.{StateHolds}
 use Rattle.commands.specs.Following.{enabledBy}
 use Rattle.calls.specs.Packets.{Profile}
 use Rattle.calls.specs.Calls.{Call, Held, modelOf}
 use Rattle.calls.specs.Gives.{Answer}
-use Rattle.credits.proofs.Steps.{Step}
+use Rattle.credits.specs.Steps.{Step}
 use Rattle.credits.proofs.Credits.{stateOf}
 use Rattle.agreement.specs.Agreement.{callFed, answerFed, limitsOf, reading}
 

@@ -17,7 +17,7 @@ use Rattle.commands.specs.Outcome.{Given, done}
 use Rattle.commands.specs.Known.{reset, setEventMask}
 use Rattle.commands.specs.Table.{rows, find, sized}
 use Rattle.commands.specs.Command.{familyOf, otherFamily, refused, modelled, listedRow, rowless, byRow, command}
-use Rattle.credits.proofs.Steps.{initial}
+use Rattle.credits.specs.Steps.{initial}
 use Rattle.agreement.proofs.ByDefinition.{seen}
 
 -- an opcode that is no vendor's, of no advertising family, and not acknowledged with Command Status: each refusal of it is a

@@ -125,7 +125,7 @@ pub fn set_scan_response_data(s: Controller, p: &[u8]) -> AdvertisingAnswered
     }
 }
 
-// Six zeroes stand for a random address that was never set.
+// A random address of six zeroes counts as none: so it stands before one is set.
 fn is_zero(address: [u8; 6]) -> bool
     ensures { λ r. ⌜ r ≡ sameList address (replicate 6 0) ⌝ }
 {
@@ -139,7 +139,7 @@ fn is_zero(address: [u8; 6]) -> bool
     true
 }
 
-// Whether advertising is to start under a random address that was never set.
+// Whether advertising is to start under a random address that is all zero.
 fn lacks_address(s: Controller, enable: u8) -> bool
     ensures { λ r. ⌜ ((size : ℕ) (pool : List ℕ) → r ≡ (eqb enable 1 && noRandomAddress (view s size pool))) ⌝ }
 {

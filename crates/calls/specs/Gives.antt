@@ -60,7 +60,14 @@ PoolLeft g (remoteDisconnect h reason) s t = t .pool ≡ s .pool
 PoolLeft g advertisingTimeout s t = t .pool ≡ s .pool
 
 -- An accepted call gives what the definitions give: the state with what waits in the pool, the octets at the front of the buffer
--- and those behind them as they were, and how many packets. The new state holds together.
+-- and those behind them as they were, and how many packets. The new state holds together. What no definition decides of it, since
+-- `viewed` does not show it, and what must hold of that:
+-- - Which place a queued packet gets: `Stored`.
+-- - The place numbers of the packets that wait: `together` asks that each waiting packet alone owns one of the acl_count places,
+--   and `viewed` that the pool has the packet's octets there.
+-- - The elements of an array past its count (connections, waiting packets, list entries, last answers, advertising data, scan
+--   response data): nothing is asked of them.
+-- No later call shows any of it: `unseen` in proofs/Unseen.antt.
 pub record Accepted (g : Profile) (c : Call) (s t : Held) (a : Answer) : Type 0 where
   pub viewed : modelOf g t ≡ replyTo g c (modelOf g s) .state
   pub written : Put (a .before) 0 (replyTo g c (modelOf g s) .octets) (a .written) (a .after)
@@ -112,7 +119,8 @@ pub record FindsBitmap (opcodes answers bits : List ℕ) (number : ℕ) (map : L
   pub refused : 0 < number → map ≡ replicate 64 0
   pub accepted : number ≡ 0 → map ≡ rowBitmap answers bits
 
--- a state as a controller starts with it
+-- A state as a controller starts with it. What no definition decides of it are the elements of the arrays that have a count, as
+-- each count is 0: nothing is asked of them, and no call shows them (`starts-alike` in proofs/Unseen.antt).
 pub record Starts (s : Controller) : Type 0 where
   pub viewed : (size : ℕ) (pool : List ℕ) → view s size pool ≡ defaultModel
   pub together : (k : ControllerRow) → StateHolds s k

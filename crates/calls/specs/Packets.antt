@@ -38,8 +38,8 @@ reply octets m = record { octets = octets; state = m }
 
 -- ---- data
 
--- a packet is queued if its header parses, its handle is connected, its length is at most acl_len and buffers in use are below
--- acl_count
+-- sections 4.1.1 and 7.8.2: a packet is queued if its header parses, its handle is connected, its length is at most acl_len and
+-- buffers in use are below acl_count
 abbrev pub accepts : ControllerRow → AclRead → Model → Bool
 accepts k (acl.Whole header) m =
     has (header .handle) (m .links .connections)

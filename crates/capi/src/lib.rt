@@ -1,5 +1,5 @@
 // The calls for C and Rust: lists of records as octets in, answers as octets out. Each runs from the default state. For runs against
-// the source and for programs in other languages; `include/wegrulsta.h` declares them. Contracts cite `records/specs/Bench.antt` and
+// the source and for programs in other languages; `embed/wegrulsta.h` declares them. Contracts cite `records/specs/Bench.antt` and
 // `trials/specs/Trials.antt`.
 ghost use lib.ListN.{length};
 ghost use Rattle.octets.specs.Octets.{Put};

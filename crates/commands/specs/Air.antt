@@ -74,7 +74,7 @@ setScanResponseData p m =
     cond (ltb 31 (octet p 0)) (outcome (done invalidParameters) m)
     (outcome (done success) (withAdvertising (withScanResponse (take (octet p 0) (drop 1 p)) (m .advertising)) m))
 
--- advertising under a random address that was never set
+-- 7.8.9: advertising under a random address that is all zero, as it is before one is set
 abbrev pub noRandomAddress : Model → Bool
 noRandomAddress m = eqb (octet (m .advertising .params) 5) 1 && sameList (m .settings .«random_address») (replicate 6 0)
 

@@ -38,7 +38,7 @@ otherFamily op m =
 abbrev pub withFamily : ℕ → Model → Model
 withFamily op m = cond (eqb (familyOf op) 0) m (withSettings (withAdvertisingFamily (familyOf op) (m .settings)) m)
 
--- `refuse`: Command Status for an opcode that is acknowledged so, else Command Complete
+-- `refuse`, section 4.5: Command Status for an opcode that is acknowledged so, else Command Complete
 unfoldable pub refused : ℕ → ℕ → AnswerModel
 refused op code = cond (isAsync op) (status code) (done code)
 

@@ -40,8 +40,8 @@ abbrev pub updateComplete : Masks → ℕ → ℕ → ℕ → ℕ → List ℕ
 updateComplete masks handle interval latency timeout =
     leEvent masks 0x03 (success ∷ le 2 handle ++ le 2 interval ++ le 2 latency ++ le 2 timeout)
 
--- a connection that failed: status and zeroes, in the newest form that the masks enable, 7.7.65.29 LE Enhanced Connection
--- Complete v2, 7.7.65.10 v1, or 7.7.65.1 LE Connection Complete
+-- a connection that failed: status and zeroes, in the newest form that the masks enable, 7.7.65.10 LE Enhanced Connection
+-- Complete v2 (0x29) or v1 (0x0A), or 7.7.65.1 LE Connection Complete
 unfoldable pub connectionFailed : Masks → ℕ → List ℕ
 connectionFailed masks code =
     cond (leEventEnabled masks 0x29) (event 0x3E (metaParams 0x29 (code ∷ replicate 32 0)))

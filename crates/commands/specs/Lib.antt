@@ -1,4 +1,5 @@
--- The definitions of the commands: what each tests, answers and changes.
+-- The definitions of the commands: what each tests, answers and changes. Sections are those of the Bluetooth Core Specification
+-- 5.4, Vol 4 Part E unless named.
 pub mod Status
 pub mod Parts
 pub mod Put

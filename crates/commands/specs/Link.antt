@@ -51,7 +51,8 @@ readChannelMap p cs =
     cond (has (word p 0) cs) (complete (success ∷ le 2 (word p 0) ++ 0xFF ∷ 0xFF ∷ 0xFF ∷ 0xFF ∷ 0x1F ∷ []))
     (complete (unknownConnection ∷ le 2 (word p 0) ++ replicate 5 0))
 
--- 7.8.21 LE Read Remote Features (0x2016): the peer reports the controller's own features
+-- 7.8.21 LE Read Remote Features (0x2016): the peer reports the controller's own features; 7.7.65.4 LE Read Remote Features
+-- Complete follows
 unfoldable pub readRemoteFeatures : ControllerRow → List ℕ → Masks → List Connection → AnswerModel
 readRemoteFeatures k p masks cs =
     cond (has (word p 0) cs)
@@ -106,7 +107,7 @@ newOctets k p = min (word p 2) (k .«max_tx_octets»)
 abbrev pub newTime : ControllerRow → List ℕ → ℕ
 newTime k p = min (word p 4) (k .«max_tx_time»)
 
--- the event, where something changed
+-- 7.7.65.7 LE Data Length Change, where something changed
 abbrev pub dataLengthChange : ControllerRow → List ℕ → Masks → Connection → List ℕ
 dataLengthChange k p masks c =
     cond (eqb (c .«tx_octets») (newOctets k p) && eqb (c .«tx_time») (newTime k p)) []

@@ -127,7 +127,7 @@ sendingPhy k p c = phyPicked k (anySending (octet p 2)) (octet p 3) (c .«tx_phy
 abbrev pub receivingPhy : ControllerRow → List ℕ → Connection → ℕ
 receivingPhy k p c = phyPicked k (anyReceiving (octet p 2)) (octet p 4) (c .«rx_phy»)
 
--- 7.8.49 LE Set PHY (0x2032): the handle alone is tested
+-- 7.8.49 LE Set PHY (0x2032): the handle alone is tested; 7.7.65.12 LE PHY Update Complete follows
 unfoldable pub setPhy : ControllerRow → List ℕ → Model → Outcome
 setPhy k p m =
     atLink (connectionOf (word p 0) (m .links .connections)) (outcome (status unknownConnection) m)

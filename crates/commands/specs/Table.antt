@@ -1,5 +1,6 @@
 -- The table of all commands: opcode, how many parameter octets, and what the command does. `param_len` of the source is its
--- second column, the four matches of the source its third. For readers who look for an opcode.
+-- second column, the four matches of the source its third; but 0x0C35 takes any number here and looks at it itself, where the
+-- source tests for none before `param_len`. For readers who look for an opcode.
 use Prim.Native.Nat.{ℕ}
 use mathlib.Core.List.{List, [], _∷_, _++_, map}
 use mathlib.Core.Bool.{Bool, true, false, cond}

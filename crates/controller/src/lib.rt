@@ -1,5 +1,5 @@
 // The calls that a user of the controller makes. Each takes any state, profile, pool and buffer and comes back with its answer or
-// with the number of the first question of document 01 that has the answer "no", and then nothing has changed. State goes in by
+// with the number of the first question that has the answer "no" (docs/REFUSALS.md), and then nothing has changed. State goes in by
 // value and comes back; events and taken packets are octets at the front of a buffer that the caller lends. Contracts cite
 // `calls/specs/Gives.antt`.
 mod changing;

@@ -1,6 +1,6 @@
 -- What holds after every call, whatever it carries: buffers in use at most acl_count, at most 16 links, their handles different.
 use mathlib.Core.Path.{_≡_, refl}
-use mathlib.Core.Bool.{true, cond, _&&_, and-eq-true-iff}
+use mathlib.Core.Bool.{true, _&&_, and-eq-true-iff}
 use mathlib.Core.List.{[], _∷_}
 use Prim.Native.Nat.{ℕ, _≤_, _<_}
 use native.Mathlib.Omega.{arith}
@@ -12,8 +12,8 @@ use Rattle.lists.specs.Lists.{distinctBy, distinct}
 use Rattle.lists.proofs.Fewer.{keep-fewer}
 use Rattle.lists.proofs.Distinct.{distinct-fewer, keys-push}
 use Rattle.credits.specs.Credits.{Call, Answer, Profile, Buffers, inUse, Within}
-use Rattle.credits.proofs.Handles.{has, others, has-others-same, others-at-most, others-fewer, taken-left}
-use Rattle.credits.proofs.Steps.{State, empty, queued, ended, opened, settled, afterTake, capacity, fits, canOpen, Step, refusal, pass, reset, mask, receive, connect, take, complete, discard, disconnect}
+use Rattle.credits.specs.Steps.{has, others, State, empty, queued, ended, opened, settled, afterTake, capacity, fits, received, canOpen, Step, refusal, pass, reset, mask, receive, connect, take, complete, discard, disconnect}
+use Rattle.credits.proofs.Handles.{has-others-same, others-at-most, others-fewer, taken-left}
 
 pub within-empty : (k : Profile) → Within k empty
 unfolding distinctBy
@@ -41,7 +41,7 @@ module _ (k : Profile) (s : Buffers) (i : Within k s) where
     few = i .few;
   }
 
-  within-received : (h n : ℕ) → Within k (cond (fits k h n s) (queued h s) s)
+  within-received : (h n : ℕ) → Within k (received k h n s)
   within-received h n = cases (fits k h n s) (λ e. rw e (within-queued h n e)) (λ e. rw e i)
 
   differ-others : (h : ℕ) → distinct (λ x. x) (others h (s .handles)) ≡ true

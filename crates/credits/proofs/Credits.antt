@@ -1,11 +1,11 @@
--- Demand 3, proved of any controller whose calls follow the rules of Steps: `credits` gives the claim `CreditsHold` of
--- specs/Credits.antt. For whoever states it of a controller.
+-- Demand 3, proved of any controller whose calls follow the rules of specs/Steps.antt: `credits` gives the claim `CreditsHold`
+-- of specs/Credits.antt. For whoever states it of a controller.
 use mathlib.Core.Path.{_≡_}
 use mathlib.Core.Bool.{Bool, true}
 use mathlib.Core.List.{List, [], _∷_}
 use native.Mathlib.Omega.{arith}
 use Rattle.credits.specs.Credits.{Book, blank, book, Profile, WellFormed, OpensUnused, Unmasked, LinkKeeps, Reading, Made, Chained, lastOf, Within, callOf, answerOf, bookAfter, AllAlong, NothingDropped, CreditsHold}
-use Rattle.credits.proofs.Steps.{State, empty, Step}
+use Rattle.credits.specs.Steps.{State, empty, Step}
 use Rattle.credits.proofs.Bounds.{within-empty, within-step}
 use Rattle.credits.proofs.Agrees.{Agrees, agrees-initial, counts}
 use Rattle.credits.proofs.Calls.{Obeys, step-agrees}
@@ -15,7 +15,8 @@ module _ {C S A : Type 0} (r : Reading C S A) (unmasked : S → Bool) where
   abbrev pub stateOf : S → State
   stateOf s = record { buffers = r .buffers s; unmasked = unmasked s }
 
-  -- What is to be shown of a controller: each call follows a rule, from states of which `Good` holds, and `Good` goes on holding.
+  -- What is to be shown of a controller: each call follows a rule, from states of which `Good` holds, and `Good` goes on
+  -- holding.
   abbrev pub Follows : Profile → (C → S → S → A → Type 0) → (S → Type 0) → Type 0
   Follows k Gives Good =
       (c : C) (s t : S) (a : A) → Good s → Within k (r .buffers s) → Gives c s t a

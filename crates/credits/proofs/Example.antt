@@ -1,5 +1,7 @@
--- A run that meets all premises: two links, a packet of each taken, one reported, one dropped after its link's end, a refused
--- call, Set Event Mask, Reset, and a packet after it. For readers who ask whether the premises can be met.
+-- A run that meets all premises: Set Event Mask, two links, a packet of each taken, one reported, a refused call, one dropped
+-- after its link's end, one that goes while it waits, with its link, Reset, and a packet after it; between them calls that
+-- concern no credits. It is, call for call, what the book is fed of the run of `agreement`. For readers who ask whether the
+-- premises can be met.
 use mathlib.Core.Path.{_≡_, refl, ap}
 use mathlib.Core.Bool.{true, false}
 use mathlib.Core.List.{List, [], _∷_}
@@ -8,9 +10,9 @@ use native.Mathlib.Omega.{arith}
 use lib.Dec.{lit<, lit≤}
 use Rattle.lists.specs.Lists.{any, keep, taken, leaving}
 use Rattle.credits.specs.Credits.{Packet, acl, badHeader, setEventMask, Call, packet, opening, taking, completed, dropping, report, disconnected, resetDone, eventMaskSet, Answer, Book, blank, unacknowledged, sumBelow, put, noted, heard, heardAll, book, Profile, WellFormed, OpensUnused, Unmasked, ReportsTaken, DropsEnded, DropsNoOther, Reading, Made, Chained, lastOf, callOf, answerOf, bookAfter, AllAlong, Premises, NothingDropped, CreditsHold}
+use Rattle.credits.specs.Steps.{State, initial, fits, events, openedLink, packets, Step, refusal, pass, reset, mask, receive, connect, take, complete, discard, disconnect}
 use Rattle.credits.proofs.Sums.{sum-zero, sum-put}
 use Rattle.credits.proofs.Handles.{never}
-use Rattle.credits.proofs.Steps.{State, initial, fits, events, Step, refusal, reset, mask, receive, connect, take, complete, discard, disconnect}
 use Rattle.credits.proofs.Calls.{Obeys}
 use Rattle.credits.proofs.Credits.{credits}
 
@@ -39,29 +41,28 @@ abbrev pub entry : Call → List ℕ → List ℕ → ℕ → Answer → Made Ca
 entry c hs ws n a =
     record { call = c; left = record { buffers = record { handles = hs; waiting = ws; inFlight = n }; unmasked = true }; gave = a }
 
-abbrev pub openedLink : Answer
-openedLink = record { accepted = true; opened = true; events = []; taken = 0 }
-
--- one packet taken
-abbrev pub one : Answer
-one = record { accepted = true; opened = false; events = []; taken = 1 }
-
 abbrev pub refused : Answer
 refused = record { accepted = false; opened = false; events = []; taken = 0 }
 
 abbrev pub run : List (Made Call State Answer)
 run =
-    entry (opening 1) (1 ∷ []) [] 0 openedLink
+    entry (packet (setEventMask true)) [] [] 0 (events (eventMaskSet ∷ []))
+    ∷ entry Call.other [] [] 0 (events [])
+    ∷ entry (opening 1) (1 ∷ []) [] 0 openedLink
     ∷ entry (opening 2) (1 ∷ 2 ∷ []) [] 0 openedLink
     ∷ entry (packet (acl 1 5)) (1 ∷ 2 ∷ []) (1 ∷ []) 0 (events [])
     ∷ entry (packet (acl 2 27)) (1 ∷ 2 ∷ []) (1 ∷ 2 ∷ []) 0 (events [])
-    ∷ entry (taking 1) (1 ∷ 2 ∷ []) (2 ∷ []) 1 one
-    ∷ entry (taking 2) (1 ∷ 2 ∷ []) [] 2 one
+    ∷ entry (taking 1) (1 ∷ 2 ∷ []) (2 ∷ []) 1 (packets 1)
+    ∷ entry (taking 2) (1 ∷ 2 ∷ []) [] 2 (packets 1)
     ∷ entry (completed 1 1) (1 ∷ 2 ∷ []) [] 1 (events (report 1 1 ∷ []))
     ∷ entry (packet (acl 9 99)) (1 ∷ 2 ∷ []) [] 1 refused
+    ∷ entry Call.other (1 ∷ 2 ∷ []) [] 1 (events [])
+    ∷ entry Call.other (1 ∷ 2 ∷ []) [] 1 (events [])
     ∷ entry Call.other (1 ∷ []) [] 1 (events (disconnected 2 ∷ []))
     ∷ entry (dropping 1) (1 ∷ []) [] 0 (events [])
-    ∷ entry (packet (setEventMask true)) (1 ∷ []) [] 0 (events (eventMaskSet ∷ []))
+    ∷ entry (packet (acl 1 3)) (1 ∷ []) (1 ∷ []) 0 (events [])
+    ∷ entry (packet Packet.other) (1 ∷ []) (1 ∷ []) 0 (events [])
+    ∷ entry Call.other [] [] 0 (events (disconnected 1 ∷ []))
     ∷ entry (packet Packet.other) [] [] 0 (events (resetDone ∷ []))
     ∷ entry (opening 1) (1 ∷ []) [] 0 openedLink
     ∷ entry (packet (acl 1 0)) (1 ∷ []) (1 ∷ []) 0 (events [])
@@ -76,7 +77,9 @@ _and_ p q = (p, q)
 pub run-chained : Chained Gives initial run
 unfolding any keep taken leaving fits
 run-chained =
-    connect 1 refl (lit< tt) refl refl refl
+    mask true refl refl refl
+    and pass refl refl refl
+    and connect 1 refl (lit< tt) refl refl refl
     and connect 2 refl (lit< tt) refl refl refl
     and receive 1 5 refl refl refl
     and receive 2 27 refl refl refl
@@ -84,9 +87,13 @@ run-chained =
     and take 2 8 refl refl refl
     and complete 1 1 refl refl refl
     and refusal refl refl
+    and pass refl refl refl
+    and pass refl refl refl
     and disconnect 2 refl refl refl refl
     and discard 1 refl refl refl
-    and mask true refl refl refl
+    and receive 1 3 refl refl refl
+    and pass refl refl refl
+    and disconnect 1 refl refl refl refl
     and reset refl refl refl
     and connect 1 refl (lit< tt) refl refl refl
     and receive 1 0 refl refl refl
@@ -175,17 +182,39 @@ module _ {k : Profile} {b : Book} {a : Answer} where
   }
 
 -- ---- the run meets the premises
--- the count where nothing is owed, and where link 1 owes a packet
+-- what each link owes: link 1 a packet, both one, and link 2 one after that of link 1 was reported
+abbrev owedOne : ℕ → ℕ
+owedOne = put (λ h. 0) 1 1
+
+abbrev owedBoth : ℕ → ℕ
+owedBoth = put owedOne 2 1
+
+abbrev owedTwo : ℕ → ℕ
+owedTwo = put owedBoth 1 0
+
+-- the count where nothing is owed, where link 1 owes a packet, and where link 2 has ended
 none-owed : sumBelow 0x10000 (λ h. 0) < 2
 none-owed = omega (arith, sum-zero 0x10000)
 
-one-owed : sumBelow 0x10000 (put (λ h. 0) 1 1) < 2
+one-owed : sumBelow 0x10000 owedOne < 2
 one-owed = omega (arith, sum-zero 0x10000, sum-put 0x10000 (λ h. 0) 1 1 (lit< tt))
+
+none-left : sumBelow 0x10000 (put owedTwo 2 0) < 2
+none-left =
+    omega (
+      arith,
+      one-owed,
+      sum-put 0x10000 owedOne 2 1 (lit< tt),
+      sum-put 0x10000 owedBoth 1 0 (lit< tt),
+      sum-put 0x10000 owedTwo 2 0 (lit< tt),
+    )
 
 run-obeys : AllAlong reading (Obeys bench) blank run
 unfolding noted heard heardAll book
 run-obeys =
-    (λ x. obeys-opening 1 refl refl)
+    (λ x. obeys-mask refl)
+    and (λ x. obeys-other Call.other refl tt refl)
+    and (λ x. obeys-opening 1 refl refl)
     and (λ x. obeys-opening 2 refl refl)
     and (λ x. obeys-other (packet (acl 1 5)) refl (refl, lit≤ tt, none-owed) refl)
     and (λ x. obeys-other (packet (acl 2 27)) refl (refl, lit≤ tt, one-owed) refl)
@@ -194,8 +223,12 @@ run-obeys =
     and (λ x. obeys-completed 1 1 refl (lit≤ tt) refl)
     and (λ x. never false x refl)
     and (λ x. obeys-other Call.other refl tt refl)
+    and (λ x. obeys-other Call.other refl tt refl)
+    and (λ x. obeys-other Call.other refl tt refl)
     and (λ x. obeys-dropping 1 (lit≤ tt) (lit< tt))
-    and (λ x. obeys-mask refl)
+    and (λ x. obeys-other (packet (acl 1 3)) refl (refl, lit≤ tt, none-left) refl)
+    and (λ x. obeys-other (packet Packet.other) refl tt refl)
+    and (λ x. obeys-other Call.other refl tt refl)
     and (λ x. obeys-other (packet Packet.other) refl tt refl)
     and (λ x. obeys-opening 1 refl refl)
     and (λ x. obeys-other (packet (acl 1 0)) refl (refl, lit≤ tt, none-owed) refl)

@@ -1,7 +1,7 @@
 -- Lists of handles: which stand in a list and how many times, after one is added, taken or left out. For the proof that book and
 -- state agree.
 use mathlib.Core.Path.{_≡_, refl, sym, _∙_, ap}
-use mathlib.Core.Bool.{Bool, true, false, cond, not, _||_}
+use mathlib.Core.Bool.{Bool, true, false, cond, _||_}
 use mathlib.Core.List.{List, [], _∷_, _++_}
 use Prim.Native.Nat.{ℕ, suc, _+_, _-_, _≤_, _<_, min}
 use native.Mathlib.Omega.{arith}
@@ -15,19 +15,12 @@ use Rattle.lists.proofs.Filter.{keep-append, keep-none, keep-both}
 use Rattle.lists.proofs.Taking.{taken-keep, keep-leaving, keep-leaving-other, taken-leaving}
 use Rattle.lists.proofs.Counting.{any-count}
 use Rattle.credits.specs.Credits.{put, sumBelow}
+use Rattle.credits.specs.Steps.{has, others}
 use Rattle.credits.proofs.Sums.{sum-cong, sum-zero, sum-put}
 
--- is the handle in the list?
-abbrev pub has : ℕ → List ℕ → Bool
-has h l = any (λ x. eqb x h) l
-
--- how many times it stands there
+-- how many times the handle stands in the list
 abbrev pub times : ℕ → List ℕ → ℕ
 times h l = length (keep (λ x. eqb x h) l)
-
--- the other handles
-abbrev pub others : ℕ → List ℕ → List ℕ
-others h l = keep (λ x. not (eqb x h)) l
 
 -- two values of one test
 pub never : {P : Type 0} (t : Bool) → t ≡ true → t ≡ false → P

@@ -1,7 +1,6 @@
 -- The proof of the claim about credits.
 pub mod Sums
 pub mod Handles
-pub mod Steps
 pub mod Bounds
 pub mod Agrees
 pub mod Calls

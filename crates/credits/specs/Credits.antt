@@ -1,7 +1,7 @@
 -- Demand 3 as one claim about a whole list of calls, over any controller of which one says what its calls give: the host's book,
--- what host and link keep, and the claim, `CreditsHold`. For readers who check the claim about credits. Comments in quotation marks
--- are sentences of document 01, "Credits", or of demand 3 (document 00), that the lines below them state. `credits` in
--- proofs/Credits.antt proves the claim from what one call does.
+-- what host and link keep, and the claim, `CreditsHold`. For readers who check the claim about credits. Comments in quotation
+-- marks are sentences of document 01, "Credits", or of demand 3 (document 00), that the lines below them state. `credits` in
+-- proofs/Credits.antt proves the claim from what one call does, by the rules in Steps.antt.
 use mathlib.Core.Path.{_≡_}
 use mathlib.Core.Bool.{Bool, true, false, cond}
 use mathlib.Core.List.{List, [], _∷_}
@@ -146,6 +146,7 @@ abbrev pub Unmasked : Call → Answer → Type 0
 Unmasked c a = (bit : Bool) → c ≡ packet (setEventMask bit) → any setsEventMask (a .events) ≡ true → bit ≡ true
 
 -- "The link keeps its part if each accepted `completed` with count above 0 names an open handle and at most its `out`,"
+-- The proof does not need the open mark, since a handle with packets out is open.
 abbrev pub ReportsTaken : Book → Call → Type 0
 ReportsTaken b c = (h n : ℕ) → c ≡ completed h n → 0 < n → (b .isOpen h ≡ true) × (n ≤ b .out h)
 

@@ -18,7 +18,7 @@ use Rattle.h4.specs.declared.Fed.the-variants.{Packets, Lost, NoRoom}
 use Rattle.h4.specs.declared.H4Stream.{H4Stream}
 use Rattle.h4.specs.declared.FedStream.{FedStream}
 use Rattle.h4.specs.Framing.{ArePackets, packetLength, packets, rest, wholeOctets, framedAt, framed, packetAt}
-use Rattle.h4.specs.Stream.{number, heldOctets, fits, streamOf, Feeds}
+use Rattle.h4.specs.Stream.{heldOctets, fits, streamOf, Feeds}
 use Rattle.h4.proofs.Splitting.{packets-octets, octets-le, packets-are}
 use Rattle.h4.proofs.Losing.{framed-count}
 use Rattle.h4.proofs.Handing.{packet-after, packet-past, one-of}
@@ -31,7 +31,7 @@ fits-yes s buffer bytes h k = rw (le-leb (s .ready + s .held) (length buffer) h)
 
 -- no room, and nothing changes
 refused : (s : H4Stream) (buffer bytes : List ℕ) → fits s buffer bytes ≡ false → Feeds s buffer bytes (record { stream = s; answer = NoRoom }) buffer
-refused s buffer bytes f = record { numbered = rw f; answers = rw f; stream = rw f; leaves = rw f }
+refused s buffer bytes f = record { answers = rw f; stream = rw f; leaves = rw f }
 
 -- the buffer does not hold what the stream says is in it
 pub no-room-held : (s : H4Stream) (buffer bytes : List ℕ) → length buffer < s .ready + s .held → Feeds s buffer bytes (record { stream = s; answer = NoRoom }) buffer
@@ -44,14 +44,14 @@ no-room-new s buffer bytes h = refused s buffer bytes (go (leb (s .ready + s .he
   go true = lt-leb (s .held + length bytes) (length buffer) h
   go false = refl
 
--- framed octets were taken
-framed-number : (p : List ℕ) → number (framed p) ≡ 0
+-- framing never answers that there is no room
+framed-room : (p : List ℕ) → framed p ≡ NoRoom → ⊥
 unfolding framed
-framed-number p = go (packetLength (rest p)) where
-  go : (r : PacketLen) → number (framedAt r (wholeOctets p)) ≡ 0
-  go (Packet n) = refl
-  go More = refl
-  go (Undefined i) = refl
+framed-room p = go (packetLength (rest p)) where
+  go : (r : PacketLen) → framedAt r (wholeOctets p) ≡ NoRoom → ⊥
+  go (Packet n) e = let z : _≡_ {A = ℕ} 0 1 = cc in omega arith
+  go More e = let z : _≡_ {A = ℕ} 0 1 = cc in omega arith
+  go (Undefined i) e = let z : _≡_ {A = ℕ} 0 1 = cc in omega arith
 
 -- the octets that stand at the front of the buffer after they were written there
 written : {buffer p after : List ℕ} {end : ℕ} → Put buffer 0 p end after → take end after ≡ p
@@ -83,7 +83,6 @@ module _ (s : H4Stream) (buffer bytes : List ℕ) {at end : ℕ} {moved after : 
       let f : fits s buffer bytes ≡ true = fits-yes s buffer bytes room room-new in
       let g : a ≡ framed (heldOctets s buffer ++ bytes) = e ∙ ap framed (written both) in
       record {
-        numbered = rw f (ap number g ∙ framed-number (heldOctets s buffer ++ bytes));
         answers = rw f g;
         stream = rw f (ap (λ (x : Fed). streamOf x (heldOctets s buffer ++ bytes)) g);
         leaves = rw f (both .leaves);
@@ -111,9 +110,8 @@ pub fed-no-room : {s : H4Stream} {buffer bytes after : List ℕ} {r : FedStream}
 fed-no-room {s} {buffer} {bytes} {after} {r} f e = go (fits s buffer bytes) refl where
   go : (t : Bool) → fits s buffer bytes ≡ t → (r .stream ≡ s) × (after ≡ buffer)
   go true h =
-      let a : number (r .answer) ≡ 0 = f .numbered ∙ rw h in
-      let b : number (r .answer) ≡ 9 = ap number e in
-      absurd (omega arith)
+      let a : r .answer ≡ framed (heldOctets s buffer ++ bytes) = f .answers ∙ rw h in
+      absurd (framed-room (heldOctets s buffer ++ bytes) (sym a ∙ e))
   go false h = (f .stream ∙ rw h, f .leaves ∙ rw h)
 
 -- else the octets that waited and the new ones are framed at the front of the buffer

@@ -14,18 +14,11 @@ use Rattle.h4.specs.declared.FedStream.{FedStream}
 use Rattle.h4.specs.declared.Fed.{Fed}
 use Rattle.h4.specs.declared.Fed.the-variants.{Packets, Lost, NoRoom}
 
--- document 01's number of an answer, 0 where the octets were taken
-abbrev pub number : Fed → ℕ
-number (Packets n) = 0
-number (Lost indicator) = 0
-number NoRoom = 9
-
 -- the octets that wait for the rest of their packet
 abbrev pub heldOctets : H4Stream → List ℕ → List ℕ
 heldOctets s buffer = take (s .held) (drop (s .ready) buffer)
 
--- question 9: does the buffer hold what the stream says is in it, and does it hold the octets that wait with the new ones
--- behind them?
+-- the buffer holds what the stream says is in it, and it holds the octets that wait with the new ones behind them
 abbrev pub fits : H4Stream → List ℕ → List ℕ → Bool
 fits s buffer bytes = leb (s .ready + s .held) (length buffer) && leb (s .held + length bytes) (length buffer)
 
@@ -35,9 +28,9 @@ streamOf (Packets n) p = record { ready = n; held = length p - n }
 streamOf (Lost indicator) p = record { ready = 0; held = length p }
 streamOf NoRoom p = record { ready = 0; held = length p }
 
--- what H4Stream::feed answers, and the buffer after it
+-- What H4Stream::feed answers, and the buffer after it. Where there is no room it says so and changes nothing. That answer has no
+-- number: document 01's numbers are for the controller's calls and the HCI writers, each for its own cause alone
 pub record Feeds (s : H4Stream) (buffer bytes : List ℕ) (r : FedStream) (after : List ℕ) : Type 0 where
-  pub numbered : number (r .answer) ≡ cond (fits s buffer bytes) 0 9
   pub answers : r .answer ≡ cond (fits s buffer bytes) (framed (heldOctets s buffer ++ bytes)) NoRoom
   pub stream : r .stream ≡ cond (fits s buffer bytes) (streamOf (framed (heldOctets s buffer ++ bytes)) (heldOctets s buffer ++ bytes)) s
   pub leaves : after ≡ cond (fits s buffer bytes) (splice buffer 0 (heldOctets s buffer ++ bytes)) buffer

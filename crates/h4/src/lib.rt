@@ -78,7 +78,7 @@ fn wide(x: u8) -> usize
 }
 
 // What feeding a stream answers: the first so many octets of the buffer are whole packets, end to end and oldest first;
-// or framing is lost at an undefined indicator; or refusal 9.
+// or framing is lost at an undefined indicator; or the buffer has no room for them, and nothing has changed.
 pub enum Fed {
     Packets(usize),
     Lost(u8),

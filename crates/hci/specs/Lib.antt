@@ -1,4 +1,4 @@
--- The definitions of HCI packets, from Core Vol 4 Part E.
+-- The definitions of HCI packets, from the Bluetooth Core Specification 5.4 ("Core"), Vol 4 Part E.
 pub mod Packet
 pub mod Write
 pub mod Read

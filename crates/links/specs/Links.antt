@@ -67,8 +67,8 @@ inUse m = length (m .queue) + m .inFlight
 
 -- Changing
 
--- a connection with the defaults of a new LE link: 27 octets in 328 us, LE 1M both ways (Core Vol 6 Part B section 4.5.10),
--- 30 s for authenticated payloads (section 5.4)
+-- a connection with the defaults of a new LE link: 27 octets in 328 us (Core Vol 6 Part B section 4.5.10), LE 1M both ways, as
+-- after legacy advertising, and 30 s for authenticated payloads (Vol 6 Part B section 5.4)
 abbrev pub newConnection : ℕ → ℕ → ℕ → ℕ → Connection
 newConnection h interval latency timeout = record {
   handle = h;
@@ -84,7 +84,8 @@ newConnection h interval latency timeout = record {
   «ltk_requested» = false;
 }
 
--- the end of a link: its connection and its queue go, what is in flight stays in use
+-- the end of a link (Core Vol 4 Part E section 4.3): its connection and its queue go. What is in flight stays in use, which is a
+-- departure of the source (docs/DIFFERENCES.md)
 unfoldable pub ended : ℕ → Model → Model
 ended h m = record {
   connections = keep (λ c. not (hasHandle h c)) (m .connections);

@@ -26,8 +26,17 @@ unfoldable pub openConnection : ℕ → ℕ → ℕ → ℕ → Model → Outcom
 openConnection handle interval latency timeout m =
     outcome silent (withLinks (openedLast (newConnection handle interval latency timeout) (m .links)) m)
 
--- 7.7.65.1, .10 and .29: status, handle, role (0x01 peripheral), the peer, the parameters and the clock accuracy; in the enhanced
--- forms no resolvable addresses behind the peer, and in version 2 no advertising set and no periodic sync at the end
+-- 7.7.65.5 LE Long Term Key Request: the request waits for a reply also where its event is masked
+unfoldable pub requestLtk : ℕ → List ℕ → ℕ → Model → Outcome
+requestLtk handle random diversifier m =
+    cond (has handle (m .links .connections))
+    (outcome (tells (leEvent (m .masks) 0x05 (le 2 handle ++ random ++ le 2 diversifier)))
+    (withLinks (changed handle (withLtkRequested true) (m .links)) m))
+    (outcome silent m)
+
+-- 7.7.65.1 LE Connection Complete and 7.7.65.10 LE Enhanced Connection Complete: status, handle, role (0x01 peripheral), the
+-- peer, the parameters and the clock accuracy; in the enhanced forms no resolvable addresses behind the peer, and in version 2 no
+-- advertising set and no periodic sync at the end
 abbrev pub connectionHead : ℕ → ℕ → List ℕ → List ℕ
 connectionHead handle kind peer = 0x00 ∷ le 2 handle ++ 0x01 ∷ kind ∷ peer
 
@@ -54,7 +63,7 @@ acceptConnection handle kind peer interval latency timeout accuracy m =
     (tells (connectionComplete (m .masks) (connectionHead handle kind peer) (connectionTail interval latency timeout accuracy)))
     (withLinks (openedLast (newConnection handle interval latency timeout) (m .links)) (withAdvertising (withEnabled false (m .advertising)) m))
 
--- the central changed a link's parameters; an unknown handle changes and tells nothing
+-- 7.7.65.3 LE Connection Update Complete: the central changed a link's parameters; an unknown handle changes and tells nothing
 unfoldable pub peerUpdate : ℕ → ℕ → ℕ → ℕ → Model → Outcome
 peerUpdate handle interval latency timeout m =
     cond (has handle (m .links .connections))
@@ -62,20 +71,13 @@ peerUpdate handle interval latency timeout m =
     (withLinks (changed handle (withParameters interval latency timeout) (m .links)) m))
     (outcome silent m)
 
--- 7.7.65.5 LE Long Term Key Request: the request waits for a reply also where its event is masked
-unfoldable pub requestLtk : ℕ → List ℕ → ℕ → Model → Outcome
-requestLtk handle random diversifier m =
-    cond (has handle (m .links .connections))
-    (outcome (tells (leEvent (m .masks) 0x05 (le 2 handle ++ random ++ le 2 diversifier)))
-    (withLinks (changed handle (withLtkRequested true) (m .links)) m))
-    (outcome silent m)
-
--- high duty cycle directed advertising ended unanswered: Advertising Timeout (0x3C)
+-- 7.8.9: high duty cycle directed advertising ended unanswered, Advertising Timeout (0x3C)
 unfoldable pub advertisingTimeout : Model → Outcome
 advertisingTimeout m =
     outcome (tells (connectionFailed (m .masks) 0x3C)) (withAdvertising (withEnabled false (m .advertising)) m)
 
--- packets that the air took are gone with their link: their buffers are free, and the host is told nothing (7.7.19)
+-- packets that the air took are gone with their link: their buffers are free, and the host is told nothing, since it takes the
+-- buffers of an ended link for free (4.3)
 unfoldable pub dropInFlight : ℕ → Model → Outcome
 dropInFlight count m = outcome silent (withLinks (settled count (m .links)) m)
 
@@ -85,7 +87,7 @@ completed handle count m =
     cond (eqb count 0) (outcome silent m)
     (outcome (tells (event 0x13 (completedParams (handle ∷ []) (count ∷ [])))) (withLinks (settled count (m .links)) m))
 
--- 7.7.5 Disconnection Complete, Event_Mask bit 4: the link and what waits in it are gone
+-- 7.7.5 Disconnection Complete, Event_Mask bit 4: the link and what waits in it are gone (4.3)
 abbrev pub disconnected : ℕ → ℕ → Model → Outcome
 disconnected handle reason m =
     cond (has handle (m .links .connections))

@@ -16,7 +16,7 @@ use hci::subevent::ENHANCED_CONNECTION_COMPLETE_V2;
 use state::Controller;
 use state::Masks;
 
-// A link opens with the defaults of a new LE connection (Core Vol 6 Part B section 4.5.10); the host is told nothing.
+// A link opens with the defaults of a new LE connection; the host is told nothing.
 pub fn open_connection(
     s: Controller,
     handle: u16,
@@ -41,7 +41,7 @@ fn address_type(random: bool) -> u8
     if random { 1 } else { 0 }
 }
 
-// LE Connection Complete, in its newest form that the masks enable (sections 7.7.65.29, .10 and .1). `head` is all before the
+// LE Connection Complete, in its newest form that the masks enable (sections 7.7.65.10 and 7.7.65.1). `head` is all before the
 // peer's address, `tail` the parameters and the clock accuracy. The enhanced forms have the two resolvable private addresses
 // between them, of which there are none; version 2 ends with no advertising set and no periodic sync.
 fn connection_complete(masks: Masks, head: &[u8], peer: &[u8], tail: &[u8]) -> Answer

@@ -1,14 +1,27 @@
--- What one call does to the buffers, as rules. The claim does not speak of them: who proves it of a controller shows that each of
--- its calls follows one of the rules (`Follows` in Credits), and that is all.
+-- What one call does to the buffers, as rules. The claim `CreditsHold` does not speak of them, and a reader of the claim need
+-- not believe them: crates/agreement proves, from the calls' own contracts, that each call of the controller follows one. They
+-- stand here because the theorem `credits` (proofs/Credits.antt) is stated with them, as it gives the claim for every controller
+-- whose calls follow them, and because wrong controllers are tried on them. For readers of that theorem.
 use mathlib.Core.Path.{_≡_}
-use mathlib.Core.Bool.{Bool, true, false, cond, _||_, _&&_}
+use mathlib.Core.Bool.{Bool, true, false, cond, not, _||_, _&&_}
 use mathlib.Core.List.{List, [], _∷_, _++_}
 use Prim.Native.Nat.{ℕ, _+_, _-_, _<_}
 use lib.Dec.{eqb, leb, ltb}
 use lib.ListN.{length}
-use Rattle.lists.specs.Lists.{taken, leaving}
+use Rattle.lists.specs.Lists.{any, keep, taken, leaving}
 use Rattle.credits.specs.Credits.{Packet, acl, badHeader, setEventMask, Call, packet, opening, taking, completed, dropping, Event, report, disconnected, resetDone, eventMaskSet, Answer, Profile, Buffers, inUse}
-use Rattle.credits.proofs.Handles.{has, others}
+
+-- ---- lists of handles
+
+-- is the handle in the list?
+abbrev pub has : ℕ → List ℕ → Bool
+has h l = any (λ x. eqb x h) l
+
+-- the other handles
+abbrev pub others : ℕ → List ℕ → List ℕ
+others h l = keep (λ x. not (eqb x h)) l
+
+-- ---- the state
 
 -- the buffers, and bit 4 of the event mask
 pub record State : Type 0 where
@@ -51,7 +64,7 @@ afterTake h most s = record {
 abbrev pub settled : ℕ → Buffers → Buffers
 settled n s = record { handles = s .handles; waiting = s .waiting; inFlight = s .inFlight - n }
 
--- ---- the tests
+-- ---- the tests, and what hangs on one
 
 -- how many packets the controller holds
 abbrev pub capacity : Profile → ℕ
@@ -60,6 +73,10 @@ capacity k = k .aclCount
 -- an ACL packet is queued
 unfoldable pub fits : Profile → ℕ → ℕ → Buffers → Bool
 fits k h n s = has h (s .handles) && (leb n (k .aclLen) && ltb (inUse s) (capacity k))
+
+-- an ACL packet, queued or dropped
+abbrev pub received : Profile → ℕ → ℕ → Buffers → Buffers
+received k h n s = cond (fits k h n s) (queued h s) s
 
 -- question 6
 abbrev pub canOpen : ℕ → Buffers → Bool
@@ -77,9 +94,15 @@ mayPass (completed h n) = false
 mayPass (dropping n) = false
 mayPass Call.other = true
 
--- an accepted call's answer: its events alone
+-- an accepted call's answer: its events, that it opened a link, or how many packets it took
 abbrev pub events : List Event → Answer
 events es = record { accepted = true; opened = false; events = es; taken = 0 }
+
+abbrev pub openedLink : Answer
+openedLink = record { accepted = true; opened = true; events = []; taken = 0 }
+
+abbrev pub packets : ℕ → Answer
+packets n = record { accepted = true; opened = false; events = []; taken = n }
 
 -- a state with other buffers
 abbrev pub at : Buffers → State → State
@@ -95,15 +118,15 @@ pub data Step (k : Profile) (c : Call) (s t : State) (a : Answer) : Type 0 where
   -- 0x0C01, answered with status 0
   mask : (bit : Bool) → c ≡ packet (setEventMask bit) → t ≡ record { buffers = s .buffers; unmasked = bit }
       → a ≡ events (eventMaskSet ∷ []) → Step k c s t a
-  -- an ACL packet, queued or dropped
-  receive : (h n : ℕ) → c ≡ packet (acl h n) → t ≡ at (cond (fits k h n (s .buffers)) (queued h (s .buffers)) (s .buffers)) s
+  -- an ACL packet
+  receive : (h n : ℕ) → c ≡ packet (acl h n) → t ≡ at (received k h n (s .buffers)) s
       → a ≡ events [] → Step k c s t a
   -- open_connection, accept_connection; a handle is a 16-bit number
   connect : (h : ℕ) → c ≡ opening h → h < 0x10000 → canOpen h (s .buffers) ≡ true → t ≡ at (opened h (s .buffers)) s
-      → a ≡ record { accepted = true; opened = true; events = []; taken = 0 } → Step k c s t a
+      → a ≡ openedLink → Step k c s t a
   -- take_transmit
   take : (h most : ℕ) → c ≡ taking h → t ≡ at (afterTake h most (s .buffers)) s
-      → a ≡ record { accepted = true; opened = false; events = []; taken = given h most (s .buffers) } → Step k c s t a
+      → a ≡ packets (given h most (s .buffers)) → Step k c s t a
   -- completed
   complete : (h n : ℕ) → c ≡ completed h n → t ≡ at (settled n (s .buffers)) s
       → a ≡ events (cond (eqb n 0) [] (report h n ∷ [])) → Step k c s t a
