@@ -7,6 +7,9 @@ ghost use Rattle.controller.specs.Asked.{aboutState, aboutEvents, aboutP
 use profile::ControllerRow;
 use state::Controller;
 
+// What a call gets that no question refuses.
+const ACCEPTED: u8 = 0;
+
 // 1: is the profile within its limits? 3: does the state hold together?
 pub fn about_state(profile: ControllerRow, s: Controller) -> u8
     ensures { λ r. ⌜ r ≡ aboutState profile s ⌝ }
@@ -17,7 +20,7 @@ pub fn about_state(profile: ControllerRow, s: Controller) -> u8
     if !state::holds(s, profile) {
         return 3;
     }
-    0
+    ACCEPTED
 }
 
 // 1, 3, and 5: has the event buffer 71 octets or more?
@@ -31,7 +34,7 @@ pub fn about_events(profile: ControllerRow, s: Controller, room: usize) -> u8
     if room < 71 {
         return 5;
     }
-    0
+    ACCEPTED
 }
 
 // 4: has the pool acl_count times acl_len + 5 octets or more?
@@ -54,7 +57,7 @@ pub fn about_pool(profile: ControllerRow, s: Controller, pool: usize) -> u8
     if !pool_fits(profile, pool) {
         return 4;
     }
-    0
+    ACCEPTED
 }
 
 // 1, 2: are the rows' slices equally long, at most 256, answers at most 2?, 3, to which `held` is the answer, 4 and 5. `on_packet`
@@ -85,5 +88,5 @@ pub fn about_packet(
     if room < 71 {
         return 5;
     }
-    0
+    ACCEPTED
 }

@@ -11,8 +11,8 @@ use Rattle.lists.specs.Lists.{any}
 abbrev pub opcodeOf : ℕ → ℕ → ℕ
 opcodeOf ogf ocf = bitOr (ogf % 64 * 1024) ocf
 
--- the commands of section 7 that have no return parameters: Command Status acknowledges them (section 4.4), but for 0x0C35, which
--- is not acknowledged where it succeeds (section 7.3.40)
+-- the commands of section 7 that have no return parameters: Command Status acknowledges them (section 4.4), but for 0x0C35,
+-- which is not acknowledged where it succeeds (section 7.3.40)
 abbrev pub asyncOpcodes : List ℕ
 asyncOpcodes =
     0x0401 ∷ 0x0405 ∷ 0x0406 ∷ 0x0409 ∷ 0x040A ∷ 0x040F ∷ 0x0411 ∷ 0x0413 ∷ 0x0415 ∷ 0x0417 ∷ 0x0419 ∷ 0x041B

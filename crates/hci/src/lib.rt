@@ -140,7 +140,7 @@ pub fn opcode(ogf: u16, ocf: u16) -> u16
 }
 
 // The commands that are acknowledged with Command Status and report their outcome in a later event (Core Vol 4 Part E
-// section 4.4).
+// section 4.4), and 0x0C35, which is not acknowledged where it succeeds (section 7.3.40).
 pub const ASYNC_OPCODES: [u16; 52] = [
     0x0401,
     0x0405,
