@@ -1,4 +1,5 @@
-//! Finds the two files of the source, which are compiled unchanged from where they lie, and the archive of the port.
+//! Finds the two files of the source, which are compiled unchanged from where they lie, and says whether the archive of the
+//! port is there: the crate `wegrulsta` links it, by the same rule.
 use std::path::{Path, PathBuf};
 use std::{env, fs};
 
@@ -9,7 +10,7 @@ fn main() {
     let here = PathBuf::from(env::var("CARGO_MANIFEST_DIR").expect("cargo names the folder"));
     println!("cargo:rerun-if-changed=build.rs");
     name_source(&place(&here, "ORACLE_SOURCE", SOURCE));
-    link_port(&place(&here, "ORACLE_ARCHIVE", ARCHIVE));
+    find_port(&place(&here, "WEGRULSTA_ARCHIVE", ARCHIVE));
 }
 
 /// A folder named by an environment variable, or where it lies in the repository.
@@ -31,14 +32,14 @@ fn name_source(folder: &Path) {
     fs::write(out.join("source.rs"), lines).expect("the output folder can be written");
 }
 
-/// Links `libcapi.a` if it is there; `cfg(archive)` says so to `port.rs`.
-fn link_port(folder: &Path) {
-    let archive = folder.join("libcapi.a");
+/// `cfg(archive)` says that `libcapi.a` and `libcapi_bench.a` are there.
+fn find_port(folder: &Path) {
+    let archives = ["libcapi.a", "libcapi_bench.a"].map(|name| folder.join(name));
     println!("cargo:rustc-check-cfg=cfg(archive)");
-    println!("cargo:rerun-if-changed={}", archive.display());
-    if archive.exists() {
+    for archive in &archives {
+        println!("cargo:rerun-if-changed={}", archive.display());
+    }
+    if archives.iter().all(|archive| archive.exists()) {
         println!("cargo:rustc-cfg=archive");
-        println!("cargo:rustc-link-search=native={}", folder.display());
-        println!("cargo:rustc-link-lib=static=capi");
     }
 }

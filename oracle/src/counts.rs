@@ -1,5 +1,6 @@
 //! What was compared, and the table of it.
 use crate::ble::hci;
+use crate::hci::{Function, FUNCTIONS};
 use crate::opcodes::OPCODES;
 use crate::trial::{kind, KINDS};
 
@@ -21,6 +22,10 @@ pub struct Counts {
     /// Packets by their first octet: commands, short commands, data, others.
     packets: [u64; 4],
     lines: u64,
+    /// Strange calls by their number.
+    strange: [u64; 11],
+    /// Functions of hci.rs: calls, and refused ones.
+    functions: [(u64, u64); FUNCTIONS.len()],
     /// Runs by the name of how they were made.
     runs: Vec<(&'static str, u64)>,
 }
@@ -39,6 +44,8 @@ impl Counts {
             statuses: [0; 256],
             packets: [0; 4],
             lines: 0,
+            strange: [0; 11],
+            functions: [(0, 0); FUNCTIONS.len()],
             runs: Vec::new(),
         }
     }
@@ -51,9 +58,21 @@ impl Counts {
         }
     }
 
-    /// A state shown, or queries made.
+    /// A state shown, disturbed or handed in, queries or a strange call made.
     pub fn asked(&mut self, kind: u8) {
         self.kinds[usize::from(kind)].calls += 1;
+    }
+
+    /// A strange call that answered with this number.
+    pub fn strange(&mut self, number: u8) {
+        self.strange[usize::from(number)] += 1;
+        self.kinds[usize::from(kind::STRANGE)].refused += u64::from(number != 0);
+    }
+
+    /// Calls of a function of hci.rs, and refused ones.
+    pub fn function(&mut self, at: usize, (calls, refused): (u64, u64)) {
+        let function = &mut self.functions[at];
+        *function = (function.0 + calls, function.1 + refused);
     }
 
     pub fn line(&mut self, kind: u8, p: &[u8], number: u8, octets: &[u8]) {
@@ -111,11 +130,22 @@ impl Counts {
         let [commands, short, data, others] = self.packets;
         println!("\npackets: {commands} commands, {short} short commands, {data} data, {others} others");
         self.print_commands();
-        for (number, count) in self.refusals.iter().enumerate().skip(1).filter(|(_, n)| **n > 0) {
-            println!("refused with {number}: {count}");
-        }
+        println!("calls by refusal number, 0 where they pass: {}", by_number(&self.refusals));
+        println!("strange calls by number, 0 where they pass: {}", by_number(&self.strange));
         let runs: Vec<_> = self.runs.iter().map(|(name, n)| format!("{n} {name}")).collect();
         println!("runs: {}", runs.join(", "));
+        if self.functions.iter().any(|(calls, _)| *calls > 0) {
+            self.print_functions();
+        }
+    }
+
+    fn print_functions(&self) {
+        println!("\n{:<30}{:>12}{:>18}", "function", "compared", "refused, no room");
+        for (Function { name, .. }, (calls, refused)) in FUNCTIONS.iter().zip(&self.functions) {
+            println!("{name:<30}{calls:>12}{refused:>18}");
+        }
+        let calls: u64 = self.functions.iter().map(|(calls, _)| calls).sum();
+        println!("{:<30}{calls:>12}", "functions in all");
     }
 
     /// The opcode of the table with the fewest commands answered with status 0, of those that can be, and how many.
@@ -131,12 +161,19 @@ impl Counts {
         let (fewest, fewest_op) = self.fewest_succeeded();
         let others = self.commands.iter().filter(|n| n[0] > 0).count() - made.iter().filter(|(n, _)| *n > 0).count();
         println!(
-            "commands: {} opcodes of the table, at least {least} each ({least_op:#06x}), at least {fewest} of each that can with \
-             status 0 ({fewest_op:#06x}); {others} other opcodes",
+            "commands: {} opcodes of the table, at least {least} each ({least_op:#06x}), at least {fewest} of each that can \
+             with status 0 ({fewest_op:#06x}); {others} other opcodes",
             made.len(),
         );
         let statuses = self.statuses.iter().enumerate().filter(|(_, n)| **n > 0);
         let statuses: Vec<_> = statuses.map(|(status, n)| format!("{status:#04x}: {n}")).collect();
         println!("statuses: {}", statuses.join(", "));
     }
+}
+
+/// Each number with how often it came.
+fn by_number(counts: &[u64]) -> String {
+    let met = counts.iter().enumerate().filter(|(_, count)| **count > 0);
+    let list: Vec<_> = met.map(|(number, count)| format!("{number}: {count}")).collect();
+    list.join(", ")
 }

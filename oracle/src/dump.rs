@@ -1,4 +1,4 @@
-//! The source's whole state as octets, as `crates/dump/specs/Dump.antt` says.
+//! A whole state as octets, in the form that `crates/replay/src` prints.
 use crate::ble::controller::{Advertising, Connection, Controller};
 use crate::octets::put_word;
 

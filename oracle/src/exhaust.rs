@@ -1,11 +1,11 @@
-//! Short inputs, all of them: packets, records, opcodes and bench lines.
+//! Short inputs, all of them: packets, opcodes and bench lines.
 use crate::compare::Case;
 use crate::generate::plain_setup;
 use crate::trial::{kind, put_record, Trial, ROOM};
 
 /// Calls of one run, each followed by the state.
 const AT_ONCE: usize = 128;
-/// Octets that a packet or record may begin with or be counted by.
+/// Octets that a packet may begin with or be counted by.
 const ALPHABET: [u8; 13] = [0, 1, 2, 3, 4, 5, 6, 8, 0x0C, 0x10, 0x20, 0x80, 0xFF];
 const CHARACTERS: [u8; 14] = *b"PTCOX\t\n 019afA";
 
@@ -15,7 +15,6 @@ pub fn cases() -> impl Iterator<Item = Case> {
     from_start
         .map(|packets| Case::Trial(packets_trial(&packets, false)))
         .chain(short_packets().map(|packets| Case::Trial(packets_trial(&packets, true))))
-        .chain(words(&ALPHABET, 3).chain(sized_records()).map(|input| Case::Trial(plain_trial(input))))
         .chain(words(&CHARACTERS, 4).map(|input| Case::Lines(input, 4_096)))
         .chain(words(&CHARACTERS, 3).map(|end| Case::Lines([b"P\t".to_vec(), end].concat(), 4_096)))
         .chain(words(&CHARACTERS, 3).map(|end| Case::Lines([b"T\t1".to_vec(), end].concat(), 4_096)))
@@ -56,21 +55,8 @@ fn opcodes() -> impl Iterator<Item = Vec<Vec<u8>>> {
     }))
 }
 
-/// Each kind, and kinds that aren't, with each number of octets around all sizes; then the state, if the run goes on.
-fn sized_records() -> impl Iterator<Item = Vec<u8>> {
-    let kinds = (0..=14).chain([0x7F, 0xFF]);
-    kinds.flat_map(|kind| {
-        (0..=20).map(move |size| {
-            let mut input = Vec::new();
-            put_record(&mut input, kind, &[1; 20][..size]);
-            put_record(&mut input, kind::STATE, &[]);
-            input
-        })
-    })
-}
-
 /// Every word of up to so many letters, the empty one first.
-fn words(letters: &[u8], longest: u32) -> impl Iterator<Item = Vec<u8>> {
+pub fn words(letters: &[u8], longest: u32) -> impl Iterator<Item = Vec<u8>> {
     let letters = letters.to_vec();
     (0..=longest).flat_map(move |length| {
         let letters = letters.clone();

@@ -2,6 +2,7 @@
 use crate::ble::controller::Controller;
 use crate::ble::hci;
 use crate::ble::profile::{Answering, BleProfile, CommandRow};
+use crate::call::Call;
 use crate::counts::Counts;
 use crate::octets::{hex, put_word};
 use crate::opcodes::OPCODES;
@@ -33,14 +34,13 @@ pub fn run(input: &[u8], room: usize, out: &mut Vec<u8>, counts: &mut Counts) {
     }
     out.extend(HEADER);
     BleProfile::set(bench_profile());
-    let given = Given { address: [0; 6], random: [0; 8], rows_fit: true, events: 71, packets: 64 };
     let mut controller = Controller::default();
     for line in lines(input) {
         let Some((kind, p)) = read(line) else { return };
         if room - out.len() < ROOM {
             return;
         }
-        print(&mut controller, &given, kind, &p, out, counts);
+        print(&mut controller, kind, &p, out, counts);
     }
 }
 
@@ -51,9 +51,10 @@ fn lines(input: &[u8]) -> impl Iterator<Item = &[u8]> {
     whole.split(|x| *x == b'\n').filter(move |_| !none)
 }
 
-fn print(c: &mut Controller, given: &Given, kind: u8, p: &[u8], out: &mut Vec<u8>, counts: &mut Counts) {
-    let number = source::refusal(c, given, kind, p);
-    let octets = if number == 0 { source::call(c, given, kind, p).octets } else { Vec::new() };
+fn print(c: &mut Controller, kind: u8, p: &[u8], out: &mut Vec<u8>, counts: &mut Counts) {
+    let call = Call::read(kind, p).expect("a line asks for a call");
+    let number = source::refusal(c, &Given::BENCH, &call);
+    let octets = if number == 0 { source::call(c, &Given::BENCH, &call).octets } else { Vec::new() };
     let letter = if kind == kind::TAKE { 'X' } else { 'E' };
     let mut rest = &octets[..];
     while let Ok(Some(length)) = hci::h4_packet_len(rest) {

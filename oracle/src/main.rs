@@ -1,18 +1,20 @@
 //! Compares the port with the source that it was ported from, call by call. README.md says how to run it.
 mod aes;
 mod ble;
+mod call;
 mod clock;
 mod compare;
 mod counts;
 mod dump;
 mod exhaust;
 mod generate;
+mod hci;
 mod inputs;
 mod lines;
 mod octets;
 mod opcodes;
-mod plant;
 mod port;
+mod questions;
 mod random;
 mod sample;
 mod scenarios;
@@ -30,9 +32,9 @@ extern crate self as pemu_core;
 use compare::{Case, Sides};
 use counts::Counts;
 use generate::Size;
-use plant::Plant;
+use port::plant::Plant;
 use random::Random;
-use speed::{Side, Timed};
+use speed::Side;
 use std::io::{self, Read, Write};
 use std::path::Path;
 use std::process::ExitCode;
@@ -42,6 +44,9 @@ use std::{env, fs::File};
 const CALLS: u64 = 10_000_000;
 const SECONDS: u64 = 1_800;
 const SEED: u64 = 1;
+/// Each function of hci.rs is compared once for so many calls, at random, and so many times at most.
+const CALLS_FOR_EACH: u64 = 64;
+const MOST_TIMES: u64 = 1_000_000;
 const USAGE: &str = "usage: oracle [calls] [seconds] [seed] | oracle sample FOLDER | oracle lines
      | oracle departures | oracle conditions
      | oracle speed [times] | oracle speed-once source|port SCENARIO TURNS | oracle scenarios";
@@ -87,7 +92,7 @@ fn speed_once(side: &str, scenario: &str, turns: &str) -> ExitCode {
     if matches!(side, Side::Port) {
         say_who_answers(&Sides::default());
     }
-    Timed::default().time(side, &scenario.trial(turns));
+    speed::time(side, &scenario, turns);
     ExitCode::SUCCESS
 }
 
@@ -123,7 +128,13 @@ fn compare(words: &[&str]) -> ExitCode {
     let end = start + Duration::from_secs(number(1, SECONDS));
     let limits = Limits { calls: number(0, CALLS), end, seed: number(2, SEED) };
     let mut sides = Sides::default();
-    sides.port.plant = env::var("ORACLE_PLANT").ok().and_then(|name| Plant::named(&name));
+    if let Ok(name) = env::var("ORACLE_PLANT") {
+        sides.port.plant = Plant::named(&name);
+        if sides.port.plant.is_none() {
+            eprintln!("ORACLE_PLANT is none of {}", Plant::names());
+            return ExitCode::from(2);
+        }
+    }
     say_who_answers(&sides);
     let mut counts = Counts::new();
     if let Some((case, run)) = run_all(&mut sides, &mut counts, &limits) {
@@ -142,15 +153,24 @@ fn compare(words: &[&str]) -> ExitCode {
 }
 
 fn say_who_answers(sides: &Sides) {
-    if sides.port.plant.is_some() {
-        println!("a difference is planted: the source stands in for the port");
-    } else if !port::LINKED {
-        println!("no libcapi.a was found when this was built: the source stands in for the port, so only the oracle is tried");
+    if let Some(plant) = sides.port.plant {
+        println!("a difference is planted: {plant:?}");
+    }
+    if !port::LINKED {
+        println!("no libcapi.a and libcapi_bench.a were found when this was built: the source stands in for the port, so only the oracle is tried");
     }
 }
 
-/// Short inputs first, all of them, then runs made at random; the first case that differs, and which it was.
+/// The functions of hci.rs first, then short inputs, all of them, then runs made at random; the first case that differs, and
+/// which it was.
 fn run_all(sides: &mut Sides, counts: &mut Counts, limits: &Limits) -> Option<(Case, String)> {
+    let times = (limits.calls / CALLS_FOR_EACH).clamp(1_000, MOST_TIMES);
+    for (at, octets) in hci::short().chain(hci::made(limits.seed, times)) {
+        let case = Case::Function(at, octets);
+        if sides.compare(&case, counts).is_some() {
+            return Some((case, "functions".to_string()));
+        }
+    }
     let short = exhaust::cases().map(|case| ("with short inputs", case));
     let made = (0..).map(|run| made(&mut Random::of_run(limits.seed, run), run));
     for (run, (name, case)) in short.chain(made).enumerate() {
@@ -171,8 +191,9 @@ fn made(random: &mut Random, run: u64) -> (&'static str, Case) {
     let shown_once_in = &[1, 1, 4, 1_000];
     let size = Size { records: random.pick(&[400, 120, 120, 120]), long_packets: true, shown_once_in };
     match run % 16 {
-        0..=9 => ("at random", Case::Trial(generate::trial(random, size))),
-        10..=13 => ("damaged", Case::Trial(generate::damaged(random, size))),
+        0..=6 => ("at random", Case::Trial(generate::trial(random, size))),
+        7..=10 => ("with strange states", Case::Trial(generate::strange(random, size))),
+        11..=13 => ("damaged", Case::Trial(generate::damaged(random, size))),
         _ => {
             let (input, room) = generate::bench_input(random, size.records);
             ("of bench lines", Case::Lines(input, room))

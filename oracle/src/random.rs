@@ -43,6 +43,21 @@ impl Random {
         std::array::from_fn(|_| self.octet())
     }
 
+    pub fn fill(&mut self, octets: &mut [u8]) {
+        for part in octets.chunks_mut(8) {
+            part.copy_from_slice(&self.number().to_le_bytes()[..part.len()]);
+        }
+    }
+
+    /// The numbers below n in any order.
+    pub fn shuffled(&mut self, n: u8) -> Vec<u8> {
+        let mut list: Vec<u8> = (0..n).collect();
+        for at in (1..list.len()).rev() {
+            list.swap(at, self.below(at + 1));
+        }
+        list
+    }
+
     pub fn pick<T: Copy>(&mut self, from: &[T]) -> T {
         from[self.below(from.len())]
     }

@@ -1,9 +1,10 @@
-//! A fixed sample of runs with the source's answers, for a replay without the source: `crates/replay` reads the runs from its file
-//! `stdin`, and its file `stdout` has the answers. README.md has the form.
+//! A fixed sample of runs with the source's answers, for a replay without the source: `crates/replay` reads the runs from its
+//! file `stdin`, and its file `stdout` has the answers. README.md has the form.
 use crate::counts::Counts;
 use crate::generate::{trial, Size};
 use crate::octets::hex;
 use crate::random::Random;
+use crate::setup::is_replayed;
 use crate::source;
 use crate::trial::Trial;
 use std::io::{self, Write};
@@ -18,7 +19,10 @@ pub fn write(runs: &mut dyn Write, answers: &mut dyn Write) -> io::Result<Counts
     let mut octets = Vec::new();
     for run in 0..TRIALS {
         let trial = trial(&mut Random::of_run(SEED, run), SIZE);
-        source::run(&trial, &mut octets, &mut counts);
+        octets.clear();
+        if is_replayed(&trial) {
+            source::run(&trial, &mut octets, &mut counts);
+        }
         counts.run("sampled");
         write_run(runs, &trial)?;
         writeln!(answers, "{}", hex(&octets))?;

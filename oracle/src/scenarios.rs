@@ -1,5 +1,6 @@
 //! What the speed mode times: a turn of a few calls, repeated in a state that each turn leaves as it was.
 use crate::ble::profile::ControllerRow;
+use crate::call::Call;
 use crate::generate::{command_packet, modelled_setup};
 use crate::setup::bench_controller;
 use crate::trial::{kind, put_record, Trial, ROOM};
@@ -92,6 +93,14 @@ impl Scenario {
         self.turn.len()
     }
 
+    pub fn state(&self) -> Vec<Call<'_>> {
+        calls(&self.state)
+    }
+
+    pub fn turn(&self) -> Vec<Call<'_>> {
+        calls(&self.turn)
+    }
+
     /// So many turns after the state is brought about. There is room for all answers.
     pub fn trial(&self, turns: usize) -> Trial {
         let mut input = Vec::new();
@@ -102,6 +111,10 @@ impl Scenario {
         let room = ROOM + ANSWER * (self.state.len() + turns * self.turn.len());
         Trial { setup: modelled_setup(&controller()), pool: POOL, events: EVENTS, packets: POOL, room, input }
     }
+}
+
+fn calls(records: &[Record]) -> Vec<Call<'_>> {
+    records.iter().map(|(kind, octets)| Call::read(*kind, octets).expect("the records are calls")).collect()
 }
 
 fn put(input: &mut Vec<u8>, records: &[Record]) {

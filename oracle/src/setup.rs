@@ -1,60 +1,92 @@
-//! What a run is set up with, read from octets as `crates/trials/specs/Setup.antt` says.
+//! What a run is set up with, read from octets: a profile, the public address, the random number and the rows.
+//! `crates/replay/src` reads the same form.
 use crate::ble::profile::{Answering, BleProfile, CommandRow, ControllerRow};
 use crate::octets::{array_at, long_at, word_at};
+use crate::port::raw::Profile;
+use crate::questions::{pool_octets, within_limits, Rows, MOST_ROWS};
+use crate::trial::Trial;
 
 /// Octets before the rows, of which the profile's own are 112, and octets of a row.
 pub const HEAD: usize = 126;
 pub const ROW: usize = 5;
-pub const MOST_ROWS: usize = 256;
 
 pub struct Setup {
-    pub profile: BleProfile,
+    /// As the source has it.
+    pub loaded: BleProfile,
+    /// As the port has it, and the rows in three slices.
+    pub profile: Profile,
+    pub opcodes: Vec<u16>,
+    pub answers: Vec<u8>,
+    pub bits: Vec<u16>,
     pub address: [u8; 6],
     pub random: [u8; 8],
-    /// Question 2: each answer is at most 2.
-    pub rows_fit: bool,
 }
 
-/// None where the octets are no setup: too few, too many, a row cut short, a profile outside its limits or a pool without its
-/// places. The port answers nothing then.
-pub fn read(octets: &[u8], pool: usize) -> Option<Setup> {
+impl Setup {
+    pub fn rows(&self) -> Rows<'_> {
+        Rows { opcodes: &self.opcodes, answers: &self.answers, bits: &self.bits }
+    }
+}
+
+/// None where the octets are too few or a row is cut short. Limits are passed as they stand: questions ask for them.
+pub fn read(octets: &[u8]) -> Option<Setup> {
     let rows = octets.get(HEAD..)?.chunks_exact(ROW);
-    if rows.len() > MOST_ROWS || !rows.remainder().is_empty() {
+    if !rows.remainder().is_empty() {
         return None;
     }
     let controller = controller(octets);
-    if !within_limits(&controller) || pool < pool_octets(&controller) {
-        return None;
-    }
-    Some(Setup {
-        rows_fit: rows.clone().all(|row| row[2] <= 2),
-        profile: BleProfile { controller, commands: rows.map(command).collect() },
-        address: array_at(octets, 112),
-        random: array_at(octets, 118),
+    let opcodes: Vec<u16> = rows.clone().map(|row| word_at(row, 0)).collect();
+    let answers: Vec<u8> = rows.clone().map(|row| row[2]).collect();
+    let bits: Vec<u16> = rows.map(|row| word_at(row, 3)).collect();
+    let profile = profile(&controller);
+    let commands = commands(&Rows { opcodes: &opcodes, answers: &answers, bits: &bits });
+    let loaded = BleProfile { controller, commands };
+    Some(Setup { loaded, profile, opcodes, answers, bits, address: array_at(octets, 112), random: array_at(octets, 118) })
+}
+
+/// Whether `crates/replay` answers a run at all: its setup can be read and keeps the limits of profile, rows and pool.
+pub fn is_replayed(trial: &Trial) -> bool {
+    read(&trial.setup).is_some_and(|setup| {
+        within_limits(&setup.profile) && setup.opcodes.len() <= MOST_ROWS && trial.pool >= pool_octets(&setup.profile)
     })
 }
 
-/// Question 1.
-fn within_limits(k: &ControllerRow) -> bool {
-    (27..=1019).contains(&k.acl_len) && (1..=32).contains(&k.acl_count) && k.accept_list_size <= 32 && k.resolving_list_size <= 16
-}
-
-/// What question 4 asks for.
-fn pool_octets(k: &ControllerRow) -> usize {
-    usize::from(k.acl_count) * (usize::from(k.acl_len) + 5)
-}
-
-fn command(row: &[u8]) -> CommandRow {
-    let bit = word_at(row, 3);
-    CommandRow {
-        opcode: word_at(row, 0),
-        answer: match row[2] {
+/// The rows as the source has them, as many as all slices have; an answer above 2 is unknown, and no call is made with it.
+pub fn commands(rows: &Rows) -> Vec<CommandRow> {
+    let list = rows.opcodes.iter().zip(rows.answers).zip(rows.bits);
+    list.map(|((opcode, answer), bit)| CommandRow {
+        opcode: *opcode,
+        answer: match answer {
             0 => Answering::Modeled,
             1 => Answering::Unmodeled,
             _ => Answering::Unknown,
         },
         supported: u8::try_from(bit / 8).ok().map(|octet| (octet, (bit % 8) as u8)),
-    }
+    })
+    .collect()
+}
+
+/// A profile of another type with the same fields.
+macro_rules! same_fields {
+    ($from:expr, $to:ident) => {
+        same_fields!($from, $to,
+            hci_version hci_subversion lmp_version company lmp_subversion supported_commands lmp_features le_features
+            supported_states acl_len acl_count accept_list_size resolving_list_size adv_tx_power tx_power_min tx_power_max
+            max_tx_octets max_tx_time max_adv_data_len adv_sets num_command_packets)
+    };
+    ($from:expr, $to:ident, $($field:ident)*) => {
+        $to { $($field: $from.$field),* }
+    };
+}
+
+/// The port's profile of the source's.
+pub fn profile(row: &ControllerRow) -> Profile {
+    same_fields!(row, Profile)
+}
+
+/// The source's profile of the port's.
+pub fn controller_row(profile: &Profile) -> ControllerRow {
+    same_fields!(profile, ControllerRow)
 }
 
 fn controller(octets: &[u8]) -> ControllerRow {

@@ -1,15 +1,17 @@
 //! A difference for a reader: setup, records in hex, and both answers to each.
 use crate::compare::{Case, Difference};
 use crate::octets::hex;
-use crate::setup::{HEAD, ROW};
-use crate::trial::{answers, records, Trial, KINDS};
+use crate::port::made;
+use crate::setup::{self, HEAD, ROW};
+use crate::trial::{answers, kind, records, Trial, KINDS};
 
 pub fn show(case: &Case, difference: &Difference) {
-    if let Err(what) = &difference.port {
-        println!("the port: {what}");
+    if let Some(words) = &difference.words {
+        println!("{words}");
     }
-    let port = difference.port.as_deref().unwrap_or_default();
+    let port = &difference.port;
     match case {
+        Case::Function(..) => {}
         Case::Trial(trial) => show_trial(trial, &difference.source, port),
         Case::Lines(input, room) => {
             println!("bench lines, room {room}:\n{}", String::from_utf8_lossy(input).escape_debug());
@@ -34,6 +36,9 @@ fn show_trial(trial: &Trial, source: &[u8], port: &[u8]) {
         let name = KINDS.get(usize::from(record[0])).map_or("no record", |(name, _)| name);
         let (ours, theirs) = (answer(&sources, at), answer(&ports, at));
         println!("record: {} {name} {}", hex(&record[..record.len().min(3)]), hex(record.get(3..).unwrap_or(&[])));
+        if record[0] == kind::HAND_IN {
+            show_handed_in(trial, record);
+        }
         if ours == theirs {
             println!("  both:   {ours}");
         } else {
@@ -43,6 +48,13 @@ fn show_trial(trial: &Trial, source: &[u8], port: &[u8]) {
     if sources.len() > records.len() || ports.len() > records.len() {
         println!("behind the last: source {}, port {}", answer(&sources, records.len()), answer(&ports, records.len()));
     }
+}
+
+/// The state that a record hands in, as the source has it.
+fn show_handed_in(trial: &Trial, record: &[u8]) {
+    let setup = setup::read(&trial.setup);
+    let state = setup.and_then(|setup| made::controller(record.get(3..)?, &setup.profile, trial.pool));
+    println!("  {state:?}");
 }
 
 fn answer(answers: &[&[u8]], at: usize) -> String {

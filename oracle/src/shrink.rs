@@ -17,6 +17,9 @@ pub fn shrink(case: Case, differs: &mut Differs) -> Case {
         smallest = match smallest {
             Case::Trial(trial) => Case::Trial(shrink_trial(trial, differs)),
             Case::Lines(input, room) => Case::Lines(shrink_lines(input, room, differs), room),
+            Case::Function(at, octets) => {
+                Case::Function(at, shrink_octets(octets, &mut |octets| differs(&Case::Function(at, octets.to_vec()))))
+            }
         };
         if smallest == before {
             break;
@@ -187,39 +190,67 @@ fn shrink_lines(input: Vec<u8>, room: usize, differs: &mut Differs) -> Vec<u8> {
     fewer(kept, &mut |less| differs(&Case::Lines(less.to_vec(), room)))
 }
 
+/// Fewer octets, then zeros.
+fn shrink_octets(octets: Vec<u8>, differs: &mut dyn FnMut(&[u8]) -> bool) -> Vec<u8> {
+    let mut octets = fewer(octets, differs);
+    for at in 0..octets.len() {
+        let before = std::mem::take(&mut octets[at]);
+        if !differs(&octets) {
+            octets[at] = before;
+        }
+    }
+    octets
+}
+
 #[cfg(test)]
 mod tests {
     use super::*;
     use crate::compare::Sides;
-    use crate::generate::{trial, Size};
-    use crate::plant::Plant;
+    use crate::generate::{strange, trial, Size};
+    use crate::hci;
+    use crate::port::plant::Plant;
     use crate::random::Random;
 
-    /// A planted difference is found, and shrunk to so many records.
-    fn found(plant: Plant, most: usize) {
+    const SIZE: Size = Size { records: 200, long_packets: true, shown_once_in: &[1] };
+
+    /// A planted difference is found in one of some cases; the smallest that still differs.
+    fn smallest(plant: Plant, mut cases: impl Iterator<Item = Case>) -> Case {
         let mut sides = Sides::default();
         sides.port.plant = Some(plant);
-        let size = Size { records: 200, long_packets: true, shown_once_in: &[1] };
-        let case = (0..5_000)
-            .map(|run| Case::Trial(trial(&mut Random::of_run(1, run), size)))
-            .find(|case| sides.differs(case))
-            .expect("one of so many runs differs");
-        let Case::Trial(smallest) = shrink(case, &mut |case| sides.differs(case)) else { panic!("a trial stays one") };
-        assert!(records(&smallest.input).len() <= most, "{smallest:?}");
+        let case = cases.find(|case| sides.differs(case)).expect("one of so many cases differs");
+        shrink(case, &mut |case| sides.differs(case))
+    }
+
+    /// A difference is shrunk to so many records.
+    fn found(plant: Plant, most: usize, made: fn(&mut Random, Size) -> Trial) {
+        let cases = (0..5_000).map(|run| Case::Trial(made(&mut Random::of_run(1, run), SIZE)));
+        let Case::Trial(smallest) = smallest(plant, cases) else { panic!("a trial stays one") };
+        assert!(records(&smallest.input).len() <= most, "{plant:?}: {smallest:?}");
     }
 
     #[test]
-    fn masked_handle() {
-        found(Plant::Mask, 2);
+    fn in_calls() {
+        found(Plant::Mask, 2, trial);
+        found(Plant::Bit, 3, trial);
+        found(Plant::Free, 1, trial);
+        found(Plant::Pool, 1, trial);
+        found(Plant::Behind, 2, trial);
+        found(Plant::Place, 4, trial);
     }
 
     #[test]
-    fn turned_bit() {
-        found(Plant::Bit, 3);
+    fn in_strange_calls() {
+        found(Plant::Past, 3, strange);
+        found(Plant::Together, 3, strange);
+        found(Plant::Wrap, 3, strange);
     }
 
     #[test]
-    fn other_free_handle() {
-        found(Plant::Free, 1);
+    fn in_functions() {
+        for plant in [Plant::Acl, Plant::Writer, Plant::Stream, Plant::Bitmap, Plant::Aes] {
+            let cases = hci::made(1, 20_000).map(|(at, octets)| Case::Function(at, octets));
+            let Case::Function(_, octets) = smallest(plant, cases) else { panic!("a function stays one") };
+            assert!(octets.len() <= 32, "{plant:?}: {octets:?}");
+        }
     }
 }

@@ -2,25 +2,43 @@
 //! before its call is made, in document 01's order.
 use crate::ble::controller::Controller;
 use crate::ble::profile::BleProfile;
+use crate::call::Call;
 use crate::counts::Counts;
 use crate::dump::put_state;
-use crate::octets::{array_at, put_word, word_at};
+use crate::octets::{put_word, word_at};
+use crate::port::made;
+use crate::questions::{asked, pool_octets, rows_fit, within_limits, EVENT_ROOM, LINKS};
 use crate::setup::{self, Setup};
-use crate::trial::{kind, record_length, Trial, KINDS, ROOM};
+use crate::trial::{kind, Trial};
 
-/// Question 5: the longest answer of one call.
-pub const EVENT_ROOM: usize = 71;
-/// Question 6: places for links.
-pub const LINKS: usize = 16;
-
-/// What a call is told by the setup, besides the profile.
+/// What a call is told by the setup, besides the profile, and what the setup makes of questions 1, 2 and 4.
 pub struct Given {
     pub address: [u8; 6],
     pub random: [u8; 8],
+    pub profile_fits: bool,
     pub rows_fit: bool,
+    pub pool_fits: bool,
     /// Octets of the lent buffers.
     pub events: usize,
     pub packets: usize,
+}
+
+impl Given {
+    /// The bench's.
+    pub const BENCH: Given =
+        Given { address: [0; 6], random: [0; 8], profile_fits: true, rows_fit: true, pool_fits: true, events: 71, packets: 64 };
+
+    fn of(trial: &Trial, setup: &Setup) -> Given {
+        Given {
+            address: setup.address,
+            random: setup.random,
+            profile_fits: within_limits(&setup.profile),
+            rows_fit: rows_fit(&setup.rows()),
+            pool_fits: trial.pool >= pool_octets(&setup.profile),
+            events: trial.events,
+            packets: trial.packets,
+        }
+    }
 }
 
 /// What an accepted call gives: how many packets were taken, and the octets of events or packets end to end.
@@ -33,29 +51,49 @@ pub struct Reply {
 /// All answers to a run, into `out`.
 pub fn run(trial: &Trial, out: &mut Vec<u8>, counts: &mut Counts) {
     out.clear();
-    let Some(Setup { profile, address, random, rows_fit }) = setup::read(&trial.setup, trial.pool) else {
+    let Some(setup) = setup::read(&trial.setup) else {
         return;
     };
-    BleProfile::set(profile);
-    let given = Given { address, random, rows_fit, events: trial.events, packets: trial.packets };
+    BleProfile::set(setup.loaded.clone());
+    let given = Given::of(trial, &setup);
     let mut controller = Controller::default();
-    let mut rest = &trial.input[..];
-    while trial.room - out.len() >= ROOM {
-        let length = record_length(rest);
-        if length == 0 || !is_call(rest[0], length - 3) {
-            return;
+    let answered = trial.run(out, &mut |kind, p, out| {
+        match kind {
+            kind::STATE => put_shown(&controller, out),
+            kind::QUERIES => put_found(&controller, u8::from(!given.profile_fits), word_at(p, 0), out),
+            kind::HAND_IN => {
+                if let Some(state) = made::controller(p, &setup.profile, trial.pool) {
+                    controller = state;
+                }
+            }
+            // these are for the port alone
+            kind::DISTURB | kind::STRANGE => {}
+            _ => {
+                answer(&mut controller, &given, kind, p, out, counts);
+                return Ok(());
+            }
         }
-        answer(&mut controller, &given, rest[0], &rest[3..length], out, counts);
-        rest = &rest[length..];
+        counts.asked(kind);
+        Ok(())
+    });
+    answered.expect("the source has an answer to each record");
+}
+
+/// The state as octets, behind how many they are.
+pub fn put_shown(c: &Controller, out: &mut Vec<u8>) {
+    let start = out.len();
+    put_word(out, 0);
+    put_state(c, out);
+    let length = (out.len() - start - 2) as u16;
+    out[start..start + 2].copy_from_slice(&length.to_le_bytes());
+}
+
+/// What the four queries find, the first two of a handle; where they are refused by a number, nothing.
+pub fn put_found(c: &Controller, number: u8, handle: u16, out: &mut Vec<u8>) {
+    if number != 0 {
+        out.extend([number << 4, 0, 0, 0, 0, 0, 0]);
+        return;
     }
-}
-
-fn is_call(kind: u8, octets: usize) -> bool {
-    kind == kind::PACKET || KINDS.get(usize::from(kind)).is_some_and(|(_, n)| *n == octets)
-}
-
-/// What the four queries find, the first two of a handle.
-fn put_found(c: &Controller, handle: u16, out: &mut Vec<u8>) {
     out.push(u8::from(c.has_connection(handle)));
     out.extend(c.terminating(handle).map_or([0, 0], |reason| [1, reason]));
     put_word(out, c.free_handle());
@@ -63,74 +101,60 @@ fn put_found(c: &Controller, handle: u16, out: &mut Vec<u8>) {
 }
 
 fn answer(c: &mut Controller, given: &Given, kind: u8, p: &[u8], out: &mut Vec<u8>, counts: &mut Counts) {
-    if kind == kind::STATE {
-        let start = out.len();
-        put_word(out, 0);
-        put_state(c, out);
-        let length = (out.len() - start - 2) as u16;
-        out[start..start + 2].copy_from_slice(&length.to_le_bytes());
-        counts.asked(kind);
-        return;
-    }
-    if kind == kind::QUERIES {
-        put_found(c, word_at(p, 0), out);
-        counts.asked(kind);
-        return;
-    }
-    let number = refusal(c, given, kind, p);
-    let reply = if number == 0 { call(c, given, kind, p) } else { Reply::default() };
+    let Some(wanted) = Call::read(kind, p) else { return };
+    let number = refusal(c, given, &wanted);
+    let reply = if number == 0 { call(c, given, &wanted) } else { Reply::default() };
     out.extend([number, reply.taken]);
     put_word(out, reply.octets.len() as u16);
     out.extend(&reply.octets);
     counts.call(kind, p, number, &reply.octets);
 }
 
-/// The number of the first question with a "no", 0 where there is none. 1 and 4 are asked of the setup, and the state always
-/// holds together.
-pub fn refusal(c: &Controller, given: &Given, kind: u8, p: &[u8]) -> u8 {
-    let no_events = given.events < EVENT_ROOM;
-    let no_place = |handle| !c.has_connection(handle) && c.connections.len() >= LINKS;
-    match kind {
-        kind::PACKET if !given.rows_fit => 2,
-        kind::TAKE if to_take(c, word_at(p, 0), word_at(p, 2)) > given.packets => 7,
-        kind::OPEN if no_place(word_at(p, 0)) => 6,
-        kind::TAKE | kind::OPEN | kind::DROP => 0,
-        _ if no_events => 5,
-        kind::ACCEPT if no_place(word_at(p, 0)) => 6,
-        _ => 0,
-    }
+/// The number of the first question with a "no", 0 where there is none. The state always holds together.
+pub fn refusal(c: &Controller, given: &Given, call: &Call) -> u8 {
+    let yes = |number: u8| match (number, call) {
+        (1, _) => given.profile_fits,
+        (2, _) => given.rows_fit,
+        (4, _) => given.pool_fits,
+        (5, _) => given.events >= EVENT_ROOM,
+        (6, Call::Open { handle, .. } | Call::Accept { handle, .. }) => c.has_connection(*handle) || c.connections.len() < LINKS,
+        (7, Call::Take { handle, most }) => to_take(c, *handle, *most) <= given.packets,
+        _ => true,
+    };
+    asked(call).iter().copied().find(|number| !yes(*number)).unwrap_or(0)
 }
 
 /// How many octets a take would give.
-fn to_take(c: &Controller, handle: u16, most: u16) -> usize {
+fn to_take(c: &Controller, handle: u16, most: usize) -> usize {
     let link = c.connections.iter().find(|link| link.handle == handle);
-    link.map_or(0, |link| link.tx.iter().take(usize::from(most)).map(Vec::len).sum())
+    link.map_or(0, |link| link.tx.iter().take(most).map(Vec::len).sum())
 }
 
 /// An accepted call, by the source.
-pub fn call(c: &mut Controller, given: &Given, kind: u8, p: &[u8]) -> Reply {
-    let handle = if p.len() >= 2 { word_at(p, 0) } else { 0 };
-    let event = match kind {
-        kind::PACKET => return packet(c, given, p),
-        kind::TAKE => return take(c, handle, word_at(p, 2)),
-        kind::OPEN => {
-            c.open_connection(handle, word_at(p, 2), word_at(p, 4), word_at(p, 6));
+pub fn call(c: &mut Controller, given: &Given, call: &Call) -> Reply {
+    let event = match *call {
+        Call::Packet(p) => return packet(c, given, p),
+        Call::Take { handle, most } => {
+            let packets = c.take_transmit(handle, most);
+            return Reply { taken: packets.len() as u8, octets: packets.concat() };
+        }
+        Call::Open { handle, values: [interval, latency, timeout] } => {
+            c.open_connection(handle, interval, latency, timeout);
             None
         }
-        kind::COMPLETED => c.completed(handle, word_at(p, 2)),
-        kind::DROP => {
-            c.drop_in_flight(handle);
+        Call::Completed { handle, count } => c.completed(handle, count),
+        Call::Drop { count } => {
+            c.drop_in_flight(count);
             None
         }
-        kind::ACCEPT => {
-            let [interval, latency, timeout] = [9, 11, 13].map(|at| word_at(p, at));
-            c.accept_connection(handle, p[2] != 0, array_at(p, 3), interval, latency, timeout, p[15])
+        Call::Accept { handle, peer_type, peer, values: [interval, latency, timeout], accuracy } => {
+            c.accept_connection(handle, peer_type != 0, peer, interval, latency, timeout, accuracy)
         }
-        kind::UPDATE => c.peer_update(handle, word_at(p, 2), word_at(p, 4), word_at(p, 6)),
-        kind::KEY_REQUEST => c.request_ltk(handle, array_at(p, 2), word_at(p, 10)),
-        kind::COMPLETE_DISCONNECT => c.complete_disconnect(handle),
-        kind::REMOTE_DISCONNECT => c.remote_disconnect(handle, p[2]),
-        _ => c.advertising_timeout(),
+        Call::Update { handle, values: [interval, latency, timeout] } => c.peer_update(handle, interval, latency, timeout),
+        Call::KeyRequest { handle, random, diversifier } => c.request_ltk(handle, random, diversifier),
+        Call::CompleteDisconnect { handle } => c.complete_disconnect(handle),
+        Call::RemoteDisconnect { handle, reason } => c.remote_disconnect(handle, reason),
+        Call::Timeout => c.advertising_timeout(),
     };
     Reply { taken: 0, octets: event.unwrap_or_default() }
 }
@@ -141,17 +165,12 @@ fn packet(c: &mut Controller, given: &Given, p: &[u8]) -> Reply {
     Reply { taken: 0, octets: events.concat() }
 }
 
-fn take(c: &mut Controller, handle: u16, most: u16) -> Reply {
-    let packets = c.take_transmit(handle, usize::from(most));
-    Reply { taken: packets.len() as u8, octets: packets.concat() }
-}
-
 #[cfg(test)]
 mod tests {
     use super::*;
     use crate::generate::plain_setup;
     use crate::octets::hex;
-    use crate::trial::put_record;
+    use crate::trial::{put_record, ROOM};
 
     fn plain(input: Vec<u8>) -> Trial {
         Trial { setup: plain_setup(), pool: 64, events: 71, packets: 64, room: 1 << 20, input }
@@ -220,7 +239,6 @@ mod tests {
     #[test]
     fn no_setup() {
         let input = record(kind::STATE, &[]);
-        assert_eq!(answers(&Trial { pool: 63, ..plain(input.clone()) }), "");
         assert_eq!(answers(&Trial { room: ROOM - 1, ..plain(input.clone()) }), "");
         let mut cut = plain(input);
         cut.setup.pop();

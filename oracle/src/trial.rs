@@ -1,5 +1,5 @@
-//! A run of calls as octets: what both sides are handed. The forms are those of `crates/trials/specs/Setup.antt` and
-//! `Trials.antt`.
+//! A run of calls as octets: what both sides are handed. A record is a kind, how many octets follow (two octets, low one first),
+//! and those, which `call.rs` reads. `crates/replay/src` reads the same forms, all but the last three kinds.
 use crate::octets::{put_word, word_at};
 
 /// The kinds of records.
@@ -17,11 +17,17 @@ pub mod kind {
     pub const TIMEOUT: u8 = 10;
     pub const STATE: u8 = 11;
     pub const QUERIES: u8 = 12;
+    /// What no call may show is changed in the port's state: `port/disturb.rs`.
+    pub const DISTURB: u8 = 13;
+    /// Both sides go on from a state that was made, not reached: `port/made.rs`.
+    pub const HAND_IN: u8 = 14;
+    /// A call with something that a question may ask for changed: `port/strange.rs`.
+    pub const STRANGE: u8 = 15;
 }
 
-/// The calls by their names in the source, and how many octets follow in a record; a packet has any number.
-pub const KINDS: [(&str, usize); 13] = [
-    ("on_packet", 0),
+/// The calls by their names in the source, and how many octets follow in a record; some have any number.
+pub const KINDS: [(&str, usize); 16] = [
+    ("on_packet", ANY),
     ("take_transmit", 4),
     ("open_connection", 8),
     ("completed", 4),
@@ -34,9 +40,17 @@ pub const KINDS: [(&str, usize); 13] = [
     ("advertising_timeout", 0),
     ("whole state", 0),
     ("queries", 2),
+    ("states disturbed", SEED),
+    ("states handed in", ANY),
+    ("strange calls", ANY),
 ];
 
-/// The octets of the queries' answer.
+const ANY: usize = usize::MAX;
+/// The octets of a number that decides what is changed or made.
+pub const SEED: usize = 8;
+
+/// The octets of the queries' answer: whether a link has the handle, whether a Disconnect waits and its reason, the lowest free
+/// handle, and how many buffers are in use. Above the first octet's four low bits stands the number of a refusal.
 pub const FOUND: usize = 7;
 
 /// A run ends where less than this is left for its answers: the most that one record can give.
@@ -74,6 +88,31 @@ pub fn record_length(input: &[u8]) -> usize {
     }
 }
 
+/// Whether a record of this kind, with so many octets behind its length, asks for something.
+pub fn is_known(kind: u8, octets: usize) -> bool {
+    KINDS.get(usize::from(kind)).is_some_and(|(_, n)| *n == ANY || *n == octets)
+}
+
+/// How a side answers a record: its kind, its octets, and what it gives is appended.
+pub type Answering<'a> = dyn FnMut(u8, &[u8], &mut Vec<u8>) -> Result<(), String> + 'a;
+
+impl Trial {
+    /// Has a side answer one record after the other, as long as they are whole and known, and there is room for an answer. The
+    /// error is the side's.
+    pub fn run(&self, out: &mut Vec<u8>, answer: &mut Answering) -> Result<(), String> {
+        let mut rest = &self.input[..];
+        while self.room.saturating_sub(out.len()) >= ROOM {
+            let length = record_length(rest);
+            if length == 0 || !is_known(rest[0], length - 3) {
+                break;
+            }
+            answer(rest[0], &rest[3..length], out)?;
+            rest = &rest[length..];
+        }
+        Ok(())
+    }
+}
+
 /// The records of some octets; what is left at the end stands as a last one.
 pub fn records(mut input: &[u8]) -> Vec<Vec<u8>> {
     let mut list = Vec::new();
@@ -106,6 +145,7 @@ pub fn answers<'a>(records: &[Vec<u8>], mut octets: &'a [u8]) -> Vec<&'a [u8]> {
 /// The octets of the answer at the front to a record of this kind; None where they don't tell.
 fn answer_length(kind: u8, octets: &[u8]) -> Option<usize> {
     let header = match kind {
+        kind::DISTURB | kind::HAND_IN | kind::STRANGE => return Some(0),
         kind::QUERIES => return (!octets.is_empty()).then_some(FOUND),
         kind::STATE => 2,
         _ => 4,

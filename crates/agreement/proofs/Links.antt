@@ -1,7 +1,7 @@
 -- The operations on the links, as the rules of credits have them: what each does to the buffers that the claim reads. For the
 -- proof of demand 3.
 use Prim.Native.Nat.{ℕ}
-use mathlib.Core.Bool.{Bool, not}
+use mathlib.Core.Bool.{not}
 use mathlib.Core.Path.{_≡_, refl, ap, _∙_}
 use mathlib.Core.List.{List, [], _∷_, _++_, map}
 use lib.Dec.{eqb}
@@ -84,5 +84,5 @@ pub parameters-follow : (h interval latency timeout : ℕ) (m : Model)
     → buffersIn (changed h (withParameters interval latency timeout) m) ≡ buffersIn m
 parameters-follow h interval latency timeout = changed-follows h (withParameters interval latency timeout) (λ c. refl)
 
-pub requested-follows : (h : ℕ) (requested : Bool) (m : Model) → buffersIn (changed h (withLtkRequested requested) m) ≡ buffersIn m
+pub requested-follows : (h : ℕ) (requested : ℕ) (m : Model) → buffersIn (changed h (withLtkRequested requested) m) ≡ buffersIn m
 requested-follows h requested = changed-follows h (withLtkRequested requested) (λ c. refl)

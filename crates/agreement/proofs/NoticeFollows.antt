@@ -123,7 +123,7 @@ module _ (g : Profile) (m : Model) where
   unfolding requestLtk
   key-rule h random diversifier eight =
       quiet-rule (requestLtk h random diversifier m)
-      (cases (has h (m .links .connections)) (λ e. rw e (moved m (requested-follows h true (m .links)))) (λ e. rw e))
+      (cases (has h (m .links .connections)) (λ e. rw e (moved m (requested-follows h 1 (m .links)))) (λ e. rw e))
       (requestLtk-tells h random diversifier m eight)
 
   timeout-rule : Rule g book.Call.other false m (advertisingTimeout m)

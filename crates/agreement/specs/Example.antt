@@ -5,7 +5,7 @@
 -- demand 3. For readers who ask whether they can be met.
 use Prim.Native.Nat.{ℕ, _-_, _/_}
 use mathlib.Core.List.{List, [], _∷_, _++_}
-use mathlib.Core.Bool.{Bool, true, false}
+use mathlib.Core.Bool.{true}
 use lib.ListN.{length, replicate}
 use Rattle.hci.specs.Packet.{acl}
 use Rattle.links.specs.declared.Connection.{Connection}
@@ -49,7 +49,7 @@ resetDone = 0x03 ∷ 0x0C ∷ 0x00 ∷ []
 -- ---- the links
 
 -- handle, interval, latency, timeout, the reason of a Disconnect that waits for the peer, and whether the peer asked for a key
-abbrev pub connection : ℕ → ℕ → ℕ → ℕ → ℕ → Bool → Connection
+abbrev pub connection : ℕ → ℕ → ℕ → ℕ → ℕ → ℕ → Connection
 connection handle interval latency timeout terminating requested = record {
   handle = handle;
   interval = interval;
@@ -66,19 +66,19 @@ connection handle interval latency timeout terminating requested = record {
 
 -- link 1 as it opens, with new parameters, after its peer asked for a key, and after the host's Disconnect; link 2
 abbrev pub one : Connection
-one = connection 1 24 0 42 0 false
+one = connection 1 24 0 42 0 0
 
 abbrev pub oneUpdated : Connection
-oneUpdated = connection 1 40 4 300 0 false
+oneUpdated = connection 1 40 4 300 0 0
 
 abbrev pub oneAsking : Connection
-oneAsking = connection 1 40 4 300 0 true
+oneAsking = connection 1 40 4 300 0 1
 
 abbrev pub oneEnding : Connection
-oneEnding = connection 1 40 4 300 0x13 true
+oneEnding = connection 1 40 4 300 0x13 1
 
 abbrev pub two : Connection
-two = connection 2 24 0 42 0 false
+two = connection 2 24 0 42 0 0
 
 -- a packet of a link: how many octets it has, and the place of the pool that holds them
 abbrev pub waits : ℕ → ℕ → ℕ → Waiting
@@ -103,13 +103,13 @@ stateWith eventMask answers connections queue inFlight packets = record {
     «data_len» = 0;
     «scan_response» = replicate 31 0;
     «scan_response_len» = 0;
-    enabled = false;
+    enabled = 0;
   };
   scanning = defaultScanning;
   «accept_list» = record { octets = replicate 224 0; count = 0 };
   «resolving_list» = record { octets = replicate 128 0; count = 0 };
   links = record {
-    connections = connections ++ replicate (16 - length connections) (connection 0 0 0 0 0 false);
+    connections = connections ++ replicate (16 - length connections) (connection 0 0 0 0 0 0);
     count = length connections;
     waiting = queue ++ replicate (32 - length queue) (waits 0 0 0);
     «waiting_count» = length queue;

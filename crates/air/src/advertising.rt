@@ -66,7 +66,7 @@ pub fn set_advertising_parameters(s: Controller, p: &[u8]) -> AdvertisingAnswere
     ensures { λ r. ⌜ GivesAny (setAdvertisingParameters (now (p .entry))) s (putAdvertising (r .advertising) s) (r .answer) ⌝ }
 {
     let mut advertising = s.advertising;
-    if advertising.enabled {
+    if advertising.enabled != 0 {
         return AdvertisingAnswered {
             advertising,
             answer: answers::done(COMMAND_DISALLOWED),
@@ -173,7 +173,7 @@ pub fn set_advertising_enable(s: Controller, p: &[u8]) -> AdvertisingAnswered
             answer: answers::done(INVALID_PARAMETERS),
         };
     }
-    advertising.enabled = enable == 1;
+    advertising.enabled = enable;
     AdvertisingAnswered {
         advertising,
         answer: answers::done(SUCCESS),

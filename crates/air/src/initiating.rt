@@ -17,7 +17,7 @@ pub fn create_connection(s: Controller, p: &[u8]) -> ScanningAnswered
     ensures { λ r. ⌜ GivesAny (createConnection (now (p .entry))) s (putScanning (r .scanning) s) (r .answer) ⌝ }
 {
     let mut scanning = s.scanning;
-    if scanning.initiating {
+    if scanning.initiating != 0 {
         return ScanningAnswered {
             scanning,
             answer: answers::status(COMMAND_DISALLOWED),
@@ -33,7 +33,7 @@ pub fn create_connection(s: Controller, p: &[u8]) -> ScanningAnswered
             answer: answers::status(INVALID_PARAMETERS),
         };
     }
-    scanning.initiating = true;
+    scanning.initiating = 1;
     scanning.initiator_filter = p[4];
     ScanningAnswered {
         scanning,
@@ -46,13 +46,13 @@ pub fn create_connection_cancel(s: Controller) -> ScanningAnswered
     ensures { λ r. ⌜ GivesAny createConnectionCancel s (putScanning (r .scanning) s) (r .answer) ⌝ }
 {
     let mut scanning = s.scanning;
-    if !scanning.initiating {
+    if scanning.initiating == 0 {
         return ScanningAnswered {
             scanning,
             answer: answers::done(COMMAND_DISALLOWED),
         };
     }
-    scanning.initiating = false;
+    scanning.initiating = 0;
     let answer = answers::done(SUCCESS);
     ScanningAnswered {
         scanning,

@@ -1,33 +1,45 @@
-// The calls for C and Rust: lists of records as octets in, answers as octets out. Each runs from the default state. For runs against
-// the source and for programs in other languages; `embed/wegrulsta.h` declares them. Contracts cite `records/specs/Bench.antt` and
-// `trials/specs/Trials.antt`.
-ghost use lib.ListN.{length};
-ghost use Rattle.octets.specs.Octets.{Put};
-ghost use Rattle.records.specs.Bench.{runOctets};
-ghost use Rattle.trials.specs.Trials.{lent, runTrials};
+// The calls for C, Rust and whoever else links an archive: every call of `controller`, the readers and writers of `hci`, the
+// stream of `h4`, and AES. Each hands its arguments on to the Rattle function of the same work and promises the
+// same. The caller keeps the state, hands it in by value and gets it back. For firmware; `embed/wegrulsta.h` declares them.
+// Contracts cite `calls/specs/Gives.antt`, and `specs/` where an answer has another form.
+mod air_side;
+mod cipher;
+mod host;
+mod packets;
+mod queries;
+mod stream;
 
-// Bench lines: what the program `bench` prints for the input, at the front of out; how many octets that is. Where less than 512
-// octets are left for an answer, the run ends.
-#[no_mangle]
-pub extern "C" fn wegrulsta_bench(input: &[u8], out: &mut [u8]) -> usize
-    ensures { λ r. ⌜ Put (now (out .entry)) 0 (runOctets (length (now (out .entry))) (now (input .entry))) r (now (out .exit)) ⌝ }
-{
-    records::run(input, out)
-}
-
-// Trials: the answers to the records of the input, at the front of out; how many octets they are. setup has the profile, the public
-// address, the random number and the rows; pool, events and packets are lent to the calls. Where less than 40,960 octets are left
-// for an answer, the run ends.
-#[no_mangle]
-pub extern "C" fn wegrulsta_trials(
-    setup: &[u8],
-    pool: &mut [u8],
-    events: &mut [u8],
-    packets: &mut [u8],
-    input: &[u8],
-    out: &mut [u8],
-) -> usize
-    ensures { λ r. ⌜ Put (now (out .entry)) 0 (runTrials (now (setup .entry)) (lent (length (now (pool .entry))) (length (now (events .entry))) (length (now (packets .entry)))) (length (now (out .entry))) (now (input .entry))) r (now (out .exit)) ⌝ }
-{
-    trials::run(setup, pool, events, packets, input, out)
-}
+pub use air_side::wegrulsta_accept;
+pub use air_side::wegrulsta_advertising_timeout;
+pub use air_side::wegrulsta_complete_disconnect;
+pub use air_side::wegrulsta_completed;
+pub use air_side::wegrulsta_drop;
+pub use air_side::wegrulsta_open;
+pub use air_side::wegrulsta_remote_disconnect;
+pub use air_side::wegrulsta_request_key;
+pub use air_side::wegrulsta_take;
+pub use air_side::wegrulsta_update;
+pub use cipher::wegrulsta_encrypt;
+pub use host::wegrulsta_packet;
+pub use host::wegrulsta_start;
+pub use packets::wegrulsta_is_async;
+pub use packets::wegrulsta_mask_has;
+pub use packets::wegrulsta_opcode;
+pub use packets::wegrulsta_read_acl;
+pub use packets::wegrulsta_read_command;
+pub use packets::wegrulsta_set_bit;
+pub use packets::wegrulsta_write_acl;
+pub use packets::wegrulsta_write_command_complete;
+pub use packets::wegrulsta_write_command_status;
+pub use packets::wegrulsta_write_completed_packets;
+pub use packets::wegrulsta_write_event;
+pub use packets::wegrulsta_write_le_meta;
+pub use queries::wegrulsta_buffers_in_use;
+pub use queries::wegrulsta_free_handle;
+pub use queries::wegrulsta_has_connection;
+pub use queries::wegrulsta_row_bitmap;
+pub use queries::wegrulsta_terminating;
+pub use stream::wegrulsta_packet_length;
+pub use stream::wegrulsta_stream_feed;
+pub use stream::wegrulsta_stream_packet;
+pub use stream::wegrulsta_stream_start;

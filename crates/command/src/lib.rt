@@ -37,6 +37,7 @@ pub use setting::set_settings;
 
 // What a call gives that tells the host: 0 or the number of a refusal, the state after it, and how many octets of events stand at
 // the front of the buffer.
+#[repr(C)]
 pub struct Told {
     pub number: u8,
     pub state: Controller,

@@ -2,10 +2,10 @@
 -- (Core Vol 4 Part E sections 7.8.1 to 7.8.17). p are a command's parameter octets; tests stand in the order of the source.
 use Prim.Native.Nat.{ℕ}
 use mathlib.Core.List.{List, [], _∷_, _++_}
-use mathlib.Core.Bool.{Bool, true, false, cond, not, _&&_, _||_}
+use mathlib.Core.Bool.{Bool, cond, not, _&&_, _||_}
 use lib.Dec.{leb, ltb, eqb}
 use lib.ListN.{take, drop, replicate}
-use Rattle.octets.specs.Octets.{octet, word, le, numberAt}
+use Rattle.octets.specs.Octets.{octet, isYes, word, le, numberAt}
 use Rattle.lists.specs.Lists.{sameList}
 use Rattle.signed.specs.Signed.{octetOf}
 use Rattle.profile.specs.declared.ControllerRow.{ControllerRow}
@@ -54,7 +54,7 @@ advertisingParametersValid p =
 -- 7.8.5 LE Set Advertising Parameters (0x2006): not while advertising
 unfoldable pub setAdvertisingParameters : List ℕ → Model → Outcome
 setAdvertisingParameters p m =
-    cond (m .advertising .enabled) (outcome (done commandDisallowed) m)
+    cond (isYes (m .advertising .enabled)) (outcome (done commandDisallowed) m)
     (cond (not (advertisingParametersValid p)) (outcome (done invalidParameters) m)
     (outcome (done success) (withAdvertising (withParams p (m .advertising)) m)))
 
@@ -83,7 +83,7 @@ unfoldable pub setAdvertisingEnable : List ℕ → Model → Outcome
 setAdvertisingEnable p m =
     cond (ltb 1 (octet p 0)) (outcome (done invalidParameters) m)
     (cond (eqb (octet p 0) 1 && noRandomAddress m) (outcome (done invalidParameters) m)
-    (outcome (done success) (withAdvertising (withEnabled (eqb (octet p 0) 1) (m .advertising)) m)))
+    (outcome (done success) (withAdvertising (withEnabled (octet p 0) (m .advertising)) m)))
 
 -- 7.8.10: scan type to 1, interval and window 0x0004 to 0x4000, the window at most the interval, own address type and filter
 -- policy to 3
@@ -113,16 +113,16 @@ setScanEnable p m =
 -- policy and address types are not checked. The filter policy is kept
 unfoldable pub createConnection : List ℕ → Model → Outcome
 createConnection p m =
-    cond (m .scanning .initiating) (outcome (status commandDisallowed) m)
+    cond (isYes (m .scanning .initiating)) (outcome (status commandDisallowed) m)
     (cond (not (connectionParamsValid (word p 13) (word p 15) (word p 17) (word p 19))) (outcome (status invalidParameters) m)
-    (outcome (status success) (withScanning (withInitiating true (octet p 4) (m .scanning)) m)))
+    (outcome (status success) (withScanning (withInitiating 1 (octet p 4) (m .scanning)) m)))
 
 -- 7.8.13 LE Create Connection Cancel (0x200E): a connection complete event with Unknown Connection Identifier follows
 unfoldable pub createConnectionCancel : Model → Outcome
 createConnectionCancel m =
-    cond (not (m .scanning .initiating)) (outcome (done commandDisallowed) m)
+    cond (not (isYes (m .scanning .initiating))) (outcome (done commandDisallowed) m)
     (outcome (followed (connectionFailed (m .masks) unknownConnection) (done success))
-    (withScanning (withInitiating false (m .scanning .«initiator_filter») (m .scanning)) m))
+    (withScanning (withInitiating 0 (m .scanning .«initiator_filter») (m .scanning)) m))
 
 -- 7.8.14 LE Read Filter Accept List Size (0x200F)
 unfoldable pub readAcceptListSize : ControllerRow → AnswerModel

@@ -2,10 +2,10 @@
 -- a command's parameter octets, cs the connections; tests stand in the order of the source.
 use Prim.Native.Nat.{ℕ, min}
 use mathlib.Core.List.{List, [], _∷_, _++_, reverse}
-use mathlib.Core.Bool.{Bool, false, cond, not, _&&_}
+use mathlib.Core.Bool.{Bool, cond, not, _&&_}
 use lib.Dec.{eqb}
 use lib.ListN.{take, drop, getD, replicate}
-use Rattle.octets.specs.Octets.{octet, word, le}
+use Rattle.octets.specs.Octets.{octet, isYes, word, le}
 use Rattle.aes.specs.Aes.{aes128}
 use Rattle.profile.specs.declared.ControllerRow.{ControllerRow}
 use Rattle.answers.specs.Answers.{AnswerModel, complete, status, followed}
@@ -76,8 +76,8 @@ enableEncryption p masks cs =
 abbrev pub keyReply : ℕ → List ℕ → Model → Outcome
 keyReply handle event m =
     atLink (connectionOf handle (m .links .connections)) (outcome (doneHandle unknownConnection handle) m)
-    (λ c. cond (not (c .«ltk_requested»)) (outcome (doneHandle commandDisallowed handle) m)
-    (outcome (followed event (doneHandle success handle)) (withLinks (changed handle (withLtkRequested false) (m .links)) m)))
+    (λ c. cond (not (isYes (c .«ltk_requested»))) (outcome (doneHandle commandDisallowed handle) m)
+    (outcome (followed event (doneHandle success handle)) (withLinks (changed handle (withLtkRequested 0) (m .links)) m)))
 
 -- 7.8.25 LE Long Term Key Request Reply (0x201A): encryption is on at once
 unfoldable pub longTermKeyReply : List ℕ → Model → Outcome

@@ -2,7 +2,6 @@
 -- written out; nothing here decides anything. For the definitions of the commands.
 use Prim.Native.Nat.{ℕ}
 use mathlib.Core.List.{List}
-use mathlib.Core.Bool.{Bool}
 use Rattle.links.specs.Links as links
 use Rattle.state.specs.State.{Model, AdvertisingModel}
 use Rattle.state.specs.declared.Masks.{Masks}
@@ -167,7 +166,7 @@ withRandomAddress x settings = record {
   «rf_path_compensation» = settings .«rf_path_compensation»;
 }
 
-abbrev pub withAddressResolution : Bool → Settings → Settings
+abbrev pub withAddressResolution : ℕ → Settings → Settings
 withAddressResolution x settings = record {
   «random_address» = settings .«random_address»;
   «address_resolution» = x;
@@ -281,7 +280,7 @@ withParams x a = record {
   enabled = a .enabled;
 }
 
-abbrev pub withEnabled : Bool → AdvertisingModel → AdvertisingModel
+abbrev pub withEnabled : ℕ → AdvertisingModel → AdvertisingModel
 withEnabled x a = record {
   params = a .params;
   «data» = a .«data»;
@@ -305,5 +304,5 @@ withScanEnable x scanning = record {
   «initiator_filter» = scanning .«initiator_filter»;
 }
 
-abbrev pub withInitiating : Bool → ℕ → Scanning → Scanning
+abbrev pub withInitiating : ℕ → ℕ → Scanning → Scanning
 withInitiating initiating filter scanning = record { params = scanning .params; enable = scanning .enable; initiating = initiating; «initiator_filter» = filter }

@@ -6,7 +6,7 @@ use mathlib.Core.Bool.{Bool, cond, not, _&&_, _||_}
 use lib.Dec.{leb, ltb, eqb}
 use lib.Bits.{bitAnd}
 use lib.ListN.{length, take, replicate}
-use Rattle.octets.specs.Octets.{octet, word, le}
+use Rattle.octets.specs.Octets.{octet, isYes, word, le}
 use Rattle.lists.specs.Lists.{any, without, updateFirst}
 use Rattle.hci.specs.Bits.{bitOf}
 use Rattle.profile.specs.declared.ControllerRow.{ControllerRow}
@@ -25,7 +25,7 @@ use Rattle.commands.specs.Following.{leEvent}
 
 -- the list may not change while address resolution is on and the link layer is busy (7.8.38 to 7.8.40, 7.8.77)
 abbrev pub locked : Model → Bool
-locked m = m .settings .«address_resolution» && busy m
+locked m = isYes (m .settings .«address_resolution») && busy m
 
 -- the identity that the parameters begin with is on the list
 abbrev pub listed : List ℕ → Model → Bool
@@ -65,7 +65,7 @@ unfoldable pub setAddressResolution : List ℕ → Model → Outcome
 setAddressResolution p m =
     cond (ltb 1 (octet p 0)) (outcome (done invalidParameters) m)
     (cond (busy m) (outcome (done commandDisallowed) m)
-    (outcome (done success) (withSettings (withAddressResolution (eqb (octet p 0) 1) (m .settings)) m)))
+    (outcome (done success) (withSettings (withAddressResolution (octet p 0) (m .settings)) m)))
 
 -- 7.8.45 LE Set Resolvable Private Address Timeout (0x202E): 1 s to 1 hour
 unfoldable pub setAddressTimeout : List ℕ → Model → Outcome

@@ -23,6 +23,10 @@ pub use opening::accept_connection;
 pub use opening::advertising_timeout;
 pub use opening::open_connection;
 pub use packets::on_packet;
+pub use queries::Bitmap;
+pub use queries::Connected;
+pub use queries::FreeHandle;
+pub use queries::InUse;
 pub use queries::acl_buffers_in_use;
 pub use queries::default_state;
 pub use queries::free_handle;
@@ -33,6 +37,7 @@ use state::Controller;
 pub use taking::take_transmit;
 
 // What a call gives that has no buffer: 0 or the number of a refusal, and the state after it.
+#[repr(C)]
 pub struct Changed {
     pub number: u8,
     pub state: Controller,
@@ -40,6 +45,7 @@ pub struct Changed {
 
 // What a take gives: 0 or the number of a refusal, the state after it, how many packets were taken, and how many octets they have
 // together at the front of the buffer.
+#[repr(C)]
 pub struct Took {
     pub number: u8,
     pub state: Controller,

@@ -9,6 +9,7 @@ use links::DisconnectReason;
 use profile::ControllerRow;
 use state::Controller;
 
+#[repr(C)]
 pub struct Connected {
     pub number: u8,
     pub connected: bool,
@@ -19,16 +20,19 @@ pub struct DisconnectWaits {
     pub reason: DisconnectReason,
 }
 
+#[repr(C)]
 pub struct FreeHandle {
     pub number: u8,
     pub handle: u16,
 }
 
+#[repr(C)]
 pub struct InUse {
     pub number: u8,
     pub count: usize,
 }
 
+#[repr(C)]
 pub struct Bitmap {
     pub number: u8,
     pub map: [u8; 64],

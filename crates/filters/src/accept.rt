@@ -9,6 +9,7 @@ use crate::keys::cut;
 use crate::keys::place_of;
 use crate::resolving::identity;
 
+#[repr(C)]
 pub struct AcceptList {
     pub octets: [u8; 224],
     pub count: usize,

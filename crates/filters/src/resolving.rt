@@ -10,6 +10,7 @@ use crate::differ::entries_differ;
 use crate::keys::cut;
 use crate::keys::place_of;
 
+#[repr(C)]
 pub struct ResolvingList {
     pub octets: [u8; 128],
     pub count: usize,

@@ -107,6 +107,7 @@ fn frame(bytes: &[u8]) -> Fed
 
 // A stream over a buffer that the caller lends to each call: the first `ready` octets of the buffer are the packets of the
 // last feed, the next `held` octets wait for the rest of their packet.
+#[repr(C)]
 pub struct H4Stream {
     pub ready: usize,
     pub held: usize,

@@ -40,11 +40,11 @@ fn key_reply(s: Controller, handle: u16, answer: Answer) -> LinksAnswered
     let found = links::connection_of(links, handle);
     match found {
         FoundConnection::Found(c) => {
-            if !c.ltk_requested {
+            if c.ltk_requested == 0 {
                 let answer = answers::done_handle(COMMAND_DISALLOWED, handle);
                 return LinksAnswered { links, answer };
             }
-            let links = links::set_ltk_requested(links, handle, false);
+            let links = links::set_ltk_requested(links, handle, 0);
             LinksAnswered { links, answer }
         }
         FoundConnection::Nothing => {

@@ -130,8 +130,8 @@ data-length-handle o t c = refl
 pub phys-handle : (t r : ℕ) (c : Connection) → withPhys t r c .handle ≡ c .handle
 phys-handle t r c = refl
 
-pub ltk-handle : (b : Bool) (c : Connection) → withLtkRequested b c .handle ≡ c .handle
-ltk-handle b c = refl
+pub ltk-handle : (r : ℕ) (c : Connection) → withLtkRequested r c .handle ≡ c .handle
+ltk-handle r c = refl
 
 pub payload-timeout-handle : (t : ℕ) (c : Connection) → withAuthPayloadTimeout t c .handle ≡ c .handle
 payload-timeout-handle t c = refl

@@ -1,6 +1,5 @@
 -- A connection with some of its fields set: what each command and notice about one link changes.
 use Prim.Native.Nat.{ℕ}
-use mathlib.Core.Bool.{Bool}
 use Rattle.links.specs.declared.Connection.{Connection}
 
 -- interval, latency and timeout: apply_params, peer_update
@@ -52,7 +51,7 @@ withPhys tx rx c = record {
 }
 
 -- request_ltk sets it, the host's replies clear it
-abbrev pub withLtkRequested : Bool → Connection → Connection
+abbrev pub withLtkRequested : ℕ → Connection → Connection
 withLtkRequested requested c = record {
   handle = c .handle;
   interval = c .interval;

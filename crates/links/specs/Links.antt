@@ -3,7 +3,7 @@
 -- `connections`, `tx`, `acl_in_flight`. A link's own queue is the part of the queue with its handle.
 use Prim.Native.Nat.{ℕ, zero, suc, _+_, _-_}
 use mathlib.Core.List.{List, [], _∷_, _++_, map}
-use mathlib.Core.Bool.{Bool, false, cond, not, _||_}
+use mathlib.Core.Bool.{Bool, cond, not, _||_}
 use lib.Dec.{eqb, ltb}
 use lib.ListN.{length, take}
 use Rattle.lists.specs.Lists.{any, keep, taken, leaving, updateFirst, readAt}
@@ -81,7 +81,7 @@ newConnection h interval latency timeout = record {
   «tx_phy» = 1;
   «rx_phy» = 1;
   terminating = 0;
-  «ltk_requested» = false;
+  «ltk_requested» = 0;
 }
 
 -- the end of a link (Core Vol 4 Part E section 4.3): its connection and its queue go. What is in flight stays in use, which is a

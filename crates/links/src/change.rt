@@ -105,7 +105,7 @@ pub fn open_connection(
             tx_phy: 1,
             rx_phy: 1,
             terminating: 0,
-            ltk_requested: false,
+            ltk_requested: 0,
         },
     )
 }

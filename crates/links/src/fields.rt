@@ -74,7 +74,7 @@ pub fn set_phys(links: Links, handle: u16, tx_phy: u8, rx_phy: u8) -> Links
 }
 
 // Whether a request for a link's long term key awaits the host's reply.
-pub fn set_ltk_requested(links: Links, handle: u16, requested: bool) -> Links
+pub fn set_ltk_requested(links: Links, handle: u16, requested: u8) -> Links
     requires { ⌜ (links .count ≤ 16) × (links .«waiting_count» ≤ 32) ⌝ }
     ensures { λ r. ⌜ Changes handle (withLtkRequested requested) links r ⌝ }
 {

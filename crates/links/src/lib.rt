@@ -28,6 +28,7 @@ pub use look::has;
 pub use look::terminating;
 
 // One link's parameters, as in the source; its queue is the part of `Links::waiting` with its handle.
+#[repr(C)]
 pub struct Connection {
     pub handle: u16,
     // 1.25 ms units.
@@ -43,16 +44,19 @@ pub struct Connection {
     pub rx_phy: u8,
     // The reason of a Disconnect that the peer has not acknowledged yet; 0 for none, which is no reason a host may give.
     pub terminating: u8,
-    pub ltk_requested: bool,
+    // 0 is no, any other octet yes.
+    pub ltk_requested: u8,
 }
 
 // A waiting packet: its link, the pool place that holds its octets, and how many they are.
+#[repr(C)]
 pub struct Waiting {
     pub handle: u16,
     pub len: u16,
     pub place: u8,
 }
 
+#[repr(C)]
 pub struct Links {
     pub connections: [Connection; 16],
     pub count: usize,
@@ -90,7 +94,7 @@ impl Links {
             tx_phy: 0,
             rx_phy: 0,
             terminating: 0,
-            ltk_requested: false,
+            ltk_requested: 0,
         };
         let w = Waiting {
             handle: 0,

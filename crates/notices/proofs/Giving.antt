@@ -2,7 +2,6 @@
 -- the functions of `notices`.
 use mathlib.Core.Path.{_≡_, sym, ap, _∙_}
 use Prim.Native.Nat.{ℕ}
-use mathlib.Core.Bool.{false}
 use mathlib.Core.List.{List}
 use Rattle.profile.specs.declared.ControllerRow.{ControllerRow}
 use Rattle.answers.specs.declared.Answer.{Answer}
@@ -39,7 +38,7 @@ advertisingOff s = record {
   «data_len» = s .advertising .«data_len»;
   «scan_response» = s .advertising .«scan_response»;
   «scan_response_len» = s .advertising .«scan_response_len»;
-  enabled = false;
+  enabled = 0;
 }
 
 pub off-holds : {s : Controller} {k : ControllerRow} → StateHolds s k → StateHolds (putAdvertising (advertisingOff s) s) k

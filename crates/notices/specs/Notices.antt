@@ -4,7 +4,7 @@
 use mathlib.Core.Path.{_≡_}
 use Prim.Native.Nat.{ℕ}
 use mathlib.Core.List.{List, [], _∷_, _++_}
-use mathlib.Core.Bool.{true, false, cond}
+use mathlib.Core.Bool.{cond}
 use lib.Dec.{eqb}
 use lib.ListN.{length, replicate}
 use Rattle.octets.specs.Octets.{le}
@@ -31,7 +31,7 @@ unfoldable pub requestLtk : ℕ → List ℕ → ℕ → Model → Outcome
 requestLtk handle random diversifier m =
     cond (has handle (m .links .connections))
     (outcome (tells (leEvent (m .masks) 0x05 (le 2 handle ++ random ++ le 2 diversifier)))
-    (withLinks (changed handle (withLtkRequested true) (m .links)) m))
+    (withLinks (changed handle (withLtkRequested 1) (m .links)) m))
     (outcome silent m)
 
 -- 7.7.65.1 LE Connection Complete and 7.7.65.10 LE Enhanced Connection Complete: status, handle, role (0x01 peripheral), the
@@ -61,7 +61,8 @@ unfoldable pub acceptConnection : ℕ → ℕ → List ℕ → ℕ → ℕ → �
 acceptConnection handle kind peer interval latency timeout accuracy m =
     outcome
     (tells (connectionComplete (m .masks) (connectionHead handle kind peer) (connectionTail interval latency timeout accuracy)))
-    (withLinks (openedLast (newConnection handle interval latency timeout) (m .links)) (withAdvertising (withEnabled false (m .advertising)) m))
+    (withLinks (openedLast (newConnection handle interval latency timeout) (m .links))
+    (withAdvertising (withEnabled 0 (m .advertising)) m))
 
 -- 7.7.65.3 LE Connection Update Complete: the central changed a link's parameters; an unknown handle changes and tells nothing
 unfoldable pub peerUpdate : ℕ → ℕ → ℕ → ℕ → Model → Outcome
@@ -74,7 +75,7 @@ peerUpdate handle interval latency timeout m =
 -- 7.8.9: high duty cycle directed advertising ended unanswered, Advertising Timeout (0x3C)
 unfoldable pub advertisingTimeout : Model → Outcome
 advertisingTimeout m =
-    outcome (tells (connectionFailed (m .masks) 0x3C)) (withAdvertising (withEnabled false (m .advertising)) m)
+    outcome (tells (connectionFailed (m .masks) 0x3C)) (withAdvertising (withEnabled 0 (m .advertising)) m)
 
 -- packets that the air took are gone with their link: their buffers are free, and the host is told nothing, since it takes the
 -- buffers of an ended link for free (4.3)

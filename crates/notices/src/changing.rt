@@ -55,7 +55,7 @@ pub fn request_ltk(s: Controller, handle: u16, random: [u8; 8], ediv: u16) -> An
     if !links::has(s.links, handle) {
         return Answered { state: s, answer };
     }
-    let links = links::set_ltk_requested(s.links, handle, true);
+    let links = links::set_ltk_requested(s.links, handle, 1);
     let low = (handle % 256) as u8;
     let high = (handle / 256 % 256) as u8;
     let ediv_low = (ediv % 256) as u8;

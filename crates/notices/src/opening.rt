@@ -99,7 +99,7 @@ pub fn accept_connection(
     let head = [SUCCESS, low, high, 0x01, kind];
     let answer = connection_complete(s.masks, &head, &peer, &tail);
     let mut accepted = s;
-    accepted.advertising.enabled = false;
+    accepted.advertising.enabled = 0;
     accepted.links = links;
     Answered {
         state: accepted,
@@ -115,6 +115,6 @@ pub fn advertising_timeout(s: Controller) -> Answered
     let answer = answers::silent();
     let answer = commands::followed_by_connection_failed(answer, s.masks, ADVERTISING_TIMEOUT);
     let mut t = s;
-    t.advertising.enabled = false;
+    t.advertising.enabled = 0;
     Answered { state: t, answer }
 }

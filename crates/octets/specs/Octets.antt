@@ -2,12 +2,18 @@
 -- width. For every crate that reads or writes packets.
 use mathlib.Core.Path.{_≡_}
 use Prim.Native.Nat.{ℕ, zero, suc, _+_, _*_, _/_, _%_, _≤_}
+use mathlib.Core.Bool.{Bool, not}
 use mathlib.Core.List.{List, [], _∷_, _++_}
+use lib.Dec.{eqb}
 use lib.ListN.{length, take, drop, getD}
 
 -- the octet at index i, 0 past the end
 abbrev pub octet : List ℕ → ℕ → ℕ
 octet p i = getD p i 0
+
+-- a flag of the state: 0 is no, any other octet yes
+abbrev pub isYes : ℕ → Bool
+isYes x = not (eqb x 0)
 
 -- the w octets of a number, lowest first
 abbrev pub le : ℕ → ℕ → List ℕ

@@ -32,7 +32,7 @@ pub fn set_address_resolution(s: Controller, p: &[u8]) -> SettingsAnswered
     if state::busy(s) {
         return commands::settings_answered(settings, COMMAND_DISALLOWED);
     }
-    settings.address_resolution = enable == 1;
+    settings.address_resolution = enable;
     commands::settings_answered(settings, SUCCESS)
 }
 

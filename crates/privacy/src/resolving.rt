@@ -25,7 +25,7 @@ use state::Controller;
 fn locked(s: Controller) -> bool
     ensures { λ r. ⌜ ((size : ℕ) (pool : List ℕ) → r ≡ isLocked (view s size pool)) ⌝ }
 {
-    if s.settings.address_resolution {
+    if s.settings.address_resolution != 0 {
         return state::busy(s);
     }
     false

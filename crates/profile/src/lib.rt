@@ -9,6 +9,7 @@ ghost use Rattle.hci.specs.Bits.{withBit};
 ghost use Rattle.profile.specs.Profile.{withinLimits, answersFit, rowsFit, rowAnswer, answerNumber, rowBitmap};
 
 // What the controller reports about itself, and how large its buffers and lists are.
+#[repr(C)]
 pub struct ControllerRow {
     pub hci_version: u8,
     pub hci_subversion: u16,

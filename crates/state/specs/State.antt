@@ -2,10 +2,10 @@
 -- the pool holds; the other groups stand for themselves. Read beside the source's `Controller` and its `Default`.
 use Prim.Native.Nat.{ℕ, _+_, _-_, _%_, _^_}
 use mathlib.Core.List.{List, [], _∷_, _++_}
-use mathlib.Core.Bool.{Bool, false, cond, not, _&&_, _||_}
+use mathlib.Core.Bool.{Bool, cond, not, _&&_, _||_}
 use lib.Dec.{eqb, ltb}
 use lib.ListN.{length, take, drop, getD, replicate}
-use Rattle.octets.specs.Octets.{le}
+use Rattle.octets.specs.Octets.{le, isYes}
 use Rattle.lists.specs.Lists.{chunks}
 use Rattle.hci.specs.Bits.{bitOf}
 use Rattle.filters.specs.Filters.{acceptEntries, resolvingEntries}
@@ -22,7 +22,7 @@ pub record AdvertisingModel : Type 0 where
   pub params : List ℕ
   pub «data» : List ℕ
   pub scanResponse : List ℕ
-  pub enabled : Bool
+  pub enabled : ℕ
 
 pub record Model : Type 0 where
   pub masks : Masks
@@ -72,7 +72,7 @@ defaultMasks = record { event = 0x1FFFFFFFFFFF; «event_page2» = 0; «le_event�
 abbrev pub defaultSettings : Settings
 defaultSettings = record {
   «random_address» = replicate 6 0;
-  «address_resolution» = false;
+  «address_resolution» = 0;
   «rpa_timeout» = 900;
   «suggested_data_length» = 27 ∷ 328 ∷ [];
   «default_phy» = replicate 3 0;
@@ -88,12 +88,17 @@ defaultAdvertising = record {
   params = le 2 0x0800 ++ le 2 0x0800 ++ replicate 9 0 ++ 0x07 ∷ 0 ∷ [];
   «data» = [];
   scanResponse = [];
-  enabled = false;
+  enabled = 0;
 }
 
 -- section 7.8.10: passive, interval and window 0x0010
 abbrev pub defaultScanning : Scanning
-defaultScanning = record { params = 0x00 ∷ 0x10 ∷ 0x00 ∷ 0x10 ∷ 0x00 ∷ 0x00 ∷ 0x00 ∷ []; enable = replicate 2 0; initiating = false; «initiator_filter» = 0 }
+defaultScanning = record {
+  params = 0x00 ∷ 0x10 ∷ 0x00 ∷ 0x10 ∷ 0x00 ∷ 0x00 ∷ 0x00 ∷ [];
+  enable = replicate 2 0;
+  initiating = 0;
+  «initiator_filter» = 0;
+}
 
 abbrev pub noCounters : Counters
 noCounters = record { commands = 0; «unknown_commands» = 0; «acl_packets» = 0; «acl_dropped» = 0 }
@@ -131,17 +136,17 @@ withScanResponse octets a = record { params = a .params; «data» = a .«data»;
 
 -- `busy`: advertising enabled, scan enable nonzero or initiating
 abbrev pub busy : Model → Bool
-busy m = m .advertising .enabled || not (eqb (getD (m .scanning .enable) 0 0) 0) || m .scanning .initiating
+busy m = isYes (m .advertising .enabled) || not (eqb (getD (m .scanning .enable) 0 0) 0) || isYes (m .scanning .initiating)
 
 -- `accept_list_in_use`: the list may not change (sections 7.8.15 to 7.8.17)
 abbrev pub advertiserFilters : AdvertisingModel → Bool
-advertiserFilters a = a .enabled && not (eqb (getD (a .params) 14 0) 0)
+advertiserFilters a = isYes (a .enabled) && not (eqb (getD (a .params) 14 0) 0)
 
 abbrev pub scannerFilters : Scanning → Bool
 scannerFilters s = not (eqb (getD (s .enable) 0 0) 0) && not (eqb (getD (s .params) 6 0) 0)
 
 abbrev pub initiatorFilters : Scanning → Bool
-initiatorFilters s = s .initiating && not (eqb (s .«initiator_filter») 0)
+initiatorFilters s = isYes (s .initiating) && not (eqb (s .«initiator_filter») 0)
 
 abbrev pub acceptListInUse : Model → Bool
 acceptListInUse m = advertiserFilters (m .advertising) || (scannerFilters (m .scanning) || initiatorFilters (m .scanning))

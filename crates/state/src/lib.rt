@@ -19,6 +19,7 @@ pub use start::default_state;
 pub use start::reset;
 
 // Which events the host has enabled (Core Vol 4 Part E sections 7.3.1, 7.3.69 and 7.8.1).
+#[repr(C)]
 pub struct Masks {
     pub event: u64,
     pub event_page2: u64,
@@ -26,10 +27,12 @@ pub struct Masks {
 }
 
 // What the host has set that no link and no list holds.
+#[repr(C)]
 pub struct Settings {
     // Least significant octet first.
     pub random_address: [u8; 6],
-    pub address_resolution: bool,
+    // 0 is no, any other octet yes.
+    pub address_resolution: u8,
     // Seconds.
     pub rpa_timeout: u16,
     pub suggested_data_length: [u16; 2],
@@ -52,6 +55,7 @@ pub const RECEIVER_TEST: u8 = 1;
 pub const TRANSMITTER_TEST: u8 = 2;
 
 // The legacy advertising state (sections 7.8.5 to 7.8.9).
+#[repr(C)]
 pub struct Advertising {
     // The parameters of the last Set Advertising Parameters that was accepted.
     pub params: [u8; 15],
@@ -59,7 +63,8 @@ pub struct Advertising {
     pub data_len: u8,
     pub scan_response: [u8; 31],
     pub scan_response_len: u8,
-    pub enabled: bool,
+    // 0 is no, any other octet yes.
+    pub enabled: u8,
 }
 
 pub struct Interval {
@@ -68,14 +73,17 @@ pub struct Interval {
 }
 
 // Scanning and initiating (sections 7.8.10 to 7.8.13).
+#[repr(C)]
 pub struct Scanning {
     pub params: [u8; 7],
     pub enable: [u8; 2],
-    pub initiating: bool,
+    // 0 is no, any other octet yes.
+    pub initiating: u8,
     pub initiator_filter: u8,
 }
 
 // Counters that a reset keeps.
+#[repr(C)]
 pub struct Counters {
     pub commands: u64,
     pub unknown_commands: u64,
@@ -84,11 +92,13 @@ pub struct Counters {
 }
 
 // The last answers, oldest first: opcode, low octet first, and status, three octets each.
+#[repr(C)]
 pub struct Recent {
     pub octets: [u8; 96],
     pub count: usize,
 }
 
+#[repr(C)]
 pub struct Controller {
     pub masks: Masks,
     pub settings: Settings,

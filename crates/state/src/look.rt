@@ -13,14 +13,14 @@ use crate::Scanning;
 pub fn busy(s: Controller) -> bool
     ensures { λ r. ⌜ ((size : ℕ) (pool : List ℕ) → r ≡ isBusy (view s size pool)) ⌝ }
 {
-    if s.advertising.enabled {
+    if s.advertising.enabled != 0 {
         return true;
     }
     let enable = s.scanning.enable;
     if enable[0] != 0 {
         return true;
     }
-    s.scanning.initiating
+    s.scanning.initiating != 0
 }
 
 // Whether the accept list is in use, so that it may not change.
@@ -40,7 +40,7 @@ fn advertiser_filters(advertising: Advertising) -> bool
     ensures { λ r. ⌜ r ≡ advertiserFilters (advertisingOf advertising) ⌝ }
 {
     let params = advertising.params;
-    if advertising.enabled {
+    if advertising.enabled != 0 {
         return params[14] != 0;
     }
     false
@@ -60,7 +60,7 @@ fn scanner_filters(scanning: Scanning) -> bool
 fn initiator_filters(scanning: Scanning) -> bool
     ensures { λ r. ⌜ r ≡ initiatorFilters scanning ⌝ }
 {
-    if scanning.initiating {
+    if scanning.initiating != 0 {
         return scanning.initiator_filter != 0;
     }
     false

@@ -58,7 +58,7 @@ fn fresh_state(counters: Counters, recent: Recent) -> Controller
         scanning: Scanning {
             params: [0x00, 0x10, 0x00, 0x10, 0x00, 0x00, 0x00],
             enable: [0; 2],
-            initiating: false,
+            initiating: 0,
             initiator_filter: 0,
         },
         accept_list: AcceptList::new(),
@@ -74,7 +74,7 @@ fn default_settings() -> Settings
 {
     Settings {
         random_address: [0; 6],
-        address_resolution: false,
+        address_resolution: 0,
         rpa_timeout: 900,
         suggested_data_length: [27, 328],
         default_phy: [0; 3],
@@ -94,7 +94,7 @@ fn default_advertising() -> Advertising
         data_len: 0,
         scan_response: [0; 31],
         scan_response_len: 0,
-        enabled: false,
+        enabled: 0,
     }
 }
 

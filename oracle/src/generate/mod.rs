@@ -3,11 +3,13 @@ mod commands;
 mod damage;
 mod lines;
 mod setups;
+mod strange;
 mod themes;
 mod world;
 
 pub use lines::bench_input;
 pub use setups::{modelled_setup, plain_setup};
+pub use strange::strange;
 pub use world::command_packet;
 
 use crate::random::Random;
@@ -30,6 +32,11 @@ const QUERIES_ONCE_IN: usize = 16;
 
 /// A run as a careful host and link could make it, and one that cares less.
 pub fn trial(random: &mut Random, size: Size) -> Trial {
+    trial_in_world(random, size).0
+}
+
+/// The same, with its handles and addresses.
+fn trial_in_world(random: &mut Random, size: Size) -> (Trial, World) {
     let theme = random.pick(&themes::THEMES);
     let (setup, acl_len) = setups::setup(random, size.long_packets);
     let mut world = World::new(random, theme.handles, acl_len, size.long_packets);
@@ -49,12 +56,12 @@ pub fn trial(random: &mut Random, size: Size) -> Trial {
     put_record(&mut input, kind::STATE, &[]);
     let lent = setups::buffers(random, &setup);
     let room = if random.once_in(60) { random.below(2 * ROOM) } else { room_for(count, acl_len) };
-    Trial { setup, pool: lent[0], events: lent[1], packets: lent[2], room, input }
+    (Trial { setup, pool: lent[0], events: lent[1], packets: lent[2], room, input }, world)
 }
 
-/// A copy of such a run, damaged.
+/// A copy of a run, damaged.
 pub fn damaged(random: &mut Random, size: Size) -> Trial {
-    let mut trial = trial(random, size);
+    let mut trial = if random.once_in(3) { strange(random, size) } else { trial(random, size) };
     damage::damage(random, &mut trial);
     trial
 }

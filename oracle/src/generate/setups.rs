@@ -3,13 +3,14 @@ use crate::ble::hci;
 use crate::ble::profile::ControllerRow;
 use crate::octets::word_at;
 use crate::opcodes::OPCODES;
+use crate::questions::MOST_ROWS;
 use crate::random::Random;
-use crate::setup::{self, HEAD, MOST_ROWS};
+use crate::setup::{self, HEAD};
 
 /// A row as the setup has it: opcode, answer, bit number.
 type Row = (u16, u8, u16);
 
-/// A setup and its acl_len. One in some hundred is none: a limit passed, or octets cut.
+/// A setup and its acl_len. One in some hundred passes a limit or has octets cut.
 pub fn setup(random: &mut Random, long_packets: bool) -> (Vec<u8>, u16) {
     let controller = controller(random, long_packets);
     let mut setup = setup::head(&controller, random.octets(), random.octets());

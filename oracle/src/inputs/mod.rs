@@ -1,5 +1,5 @@
-//! Inputs that the documents name, run on the source: `departures.txt` has those of docs/DIFFERENCES.md, `conditions.txt` those of
-//! docs/PROOF.md. README.md says what their lines mean.
+//! Inputs that the documents name, run on the source: `departures.txt` has those of docs/DIFFERENCES.md, `conditions.txt` those
+//! of docs/PROOF.md. README.md says what their lines mean.
 mod functions;
 mod steps;
 mod words;

@@ -4,12 +4,11 @@ use super::words::{number, octets, shown};
 use crate::ble::controller::{row_bitmap, Connection, Controller};
 use crate::ble::hci::H4Stream;
 use crate::ble::profile::{Answering, BleProfile, CommandRow};
+use crate::call::Call;
 use crate::lines::bench_profile;
 use crate::octets::put_word;
 use crate::source::{self, Given};
 use crate::trial::kind;
-
-const GIVEN: Given = Given { address: [0; 6], random: [0; 8], rows_fit: true, events: 71, packets: 64 };
 
 /// The calls, and how many octets each of their arguments has: numbers up to two, else octets as they stand.
 const CALLS: [(&str, u8, &[usize]); 10] = [
@@ -73,7 +72,8 @@ impl Run {
     }
 
     fn packets(&mut self, kind: u8, p: &[u8]) -> Vec<Vec<u8>> {
-        let reply = source::call(&mut self.controller, &GIVEN, kind, p);
+        let call = Call::read(kind, p).expect("a step asks for a call");
+        let reply = source::call(&mut self.controller, &Given::BENCH, &call);
         H4Stream::new().feed(&reply.octets).expect("the source gives whole packets")
     }
 

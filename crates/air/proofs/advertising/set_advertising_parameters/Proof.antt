@@ -4,6 +4,7 @@ use Rattle.octets.proofs.Writing.{put-whole}
 use Rattle.state.proofs.Holding.{passed, failed}
 use Rattle.commands.specs.Air.{setAdvertisingParameters}
 use Rattle.commands.proofs.Giving.{gives-answer, holds-advertising}
+use borrow.Author.Tests.{eq-eqb, ne-eqb}
 use borrow.Author.Needs.{needs}
 use Rattle.air.proofs.advertising.set_advertising_parameters.Statement.{statement}
 use Rattle.air.proofs.advertising.set_advertising_parameters.Tie as tie
@@ -13,7 +14,7 @@ done-requires c κs = search needs
 
 returns : tie.Need-returns
 unfolding setAdvertisingParameters
-returns c = λ k h. gives-answer (c .done .ensures) (λ size pool. rw (c .before .if1 .taken)) h
+returns c = λ k h. gives-answer (c .done .ensures) (λ size pool. rw (ne-eqb _ _ (c .before .if1 .taken))) h
 
 advertising-parameters-valid-requires : tie.Need-advertising-parameters-valid-requires
 advertising-parameters-valid-requires c κs = search needs
@@ -24,7 +25,9 @@ done-requires-2 c κs = search needs
 returns-2 : tie.Need-returns-2
 unfolding setAdvertisingParameters
 returns-2 c = λ k h.
-    gives-answer (c .done2 .ensures) (λ size pool. rw (c .before .before .before .if1 .left, failed (c .before .before .advertising-parameters-valid .ensures) (c .before .if2 .taken))) h
+    let off = eq-eqb _ 0 (c .before .before .before .if1 .left) in
+    let invalid = failed (c .before .before .advertising-parameters-valid .ensures) (c .before .if2 .taken) in
+    gives-answer (c .done2 .ensures) (λ size pool. rw (off, invalid)) h
 
 slice-aggregate-put : tie.Need-slice-aggregate-put
 slice-aggregate-put c = search needs
@@ -38,8 +41,11 @@ done-requires-3 c κs = search needs
 returns-3 : tie.Need-returns-3
 unfolding setAdvertisingParameters
 returns-3 c = λ k h.
-    gives-answer (c .done3 .ensures)
-    (λ size pool. rw (c .before .before .before .before .before .before .if1 .left, passed (c .before .before .before .before .before .advertising-parameters-valid .ensures) (c .before .before .before .before .if2 .left), put-whole (c .before .before .put .ensures) (sym (c .before .before .before .before .before .before .before .before .before .pre))))
+    let tested = c .before .before .before .before in
+    let off = eq-eqb _ 0 (tested .before .before .if1 .left) in
+    let valid = passed (tested .before .advertising-parameters-valid .ensures) (tested .if2 .left) in
+    let copy = put-whole (c .before .before .put .ensures) (sym (tested .before .before .before .before .before .before .pre)) in
+    gives-answer (c .done3 .ensures) (λ size pool. rw (off, valid, copy))
     (holds-advertising h (record { shortData = h .advertising .shortData; shortResponse = h .advertising .shortResponse }))
 
 pub set-advertising-parameters-spec : {M : Type 1} → statement M

@@ -6,6 +6,7 @@ use Rattle.state.proofs.Holding.{passed, failed}
 use Rattle.commands.specs.Checks.{connectionParamsValid}
 use Rattle.commands.specs.Air.{createConnection}
 use Rattle.commands.proofs.Giving.{gives-answer, holds-scanning}
+use borrow.Author.Tests.{eq-eqb, ne-eqb}
 use borrow.Author.Needs.{needs}
 use Rattle.air.proofs.initiating.create_connection.Statement.{statement}
 use Rattle.air.proofs.initiating.create_connection.Tie as tie
@@ -15,7 +16,7 @@ status-requires c κs = search needs
 
 returns : tie.Need-returns
 unfolding createConnection
-returns c = λ k h. gives-answer (c .status .ensures) (λ size pool. rw (c .before .if1 .taken)) h
+returns c = λ k h. gives-answer (c .status .ensures) (λ size pool. rw (ne-eqb _ _ (c .before .if1 .taken))) h
 
 word-at-requires : tie.Need-word-at-requires
 word-at-requires c κs = search needs
@@ -38,10 +39,11 @@ status-requires-2 c κs = search needs
 returns-2 : tie.Need-returns-2
 unfolding createConnection
 returns-2 c = λ k h.
-    let p = c .before .before .before .before .before .before .before .before .before .before .args .p .now in
+    let p = c .before .before .before .before .before .before .before .before .before .before .before .args .p .now in
     let valid : connectionParamsValid (word p 13) (word p 15) (word p 17) (word p 19) ≡ false =
     failed (rw (c .before .before .before .before .before .before .word-at .ensures, c .before .before .before .before .before .word-at2 .ensures, c .before .before .before .before .word-at3 .ensures, c .before .before .before .word-at4 .ensures) at (c .before .before .connection-params-valid .ensures)) (c .before .if2 .taken) in
-    gives-answer (c .status2 .ensures) (λ size pool. rw (c .before .before .before .before .before .before .before .if1 .left, valid)) h
+    let idle = eq-eqb _ 0 (c .before .before .before .before .before .before .before .if1 .left) in
+    gives-answer (c .status2 .ensures) (λ size pool. rw (idle, valid)) h
 
 shared-slice-read-scanning : tie.Need-shared-slice-read-scanning
 shared-slice-read-scanning c = search needs
@@ -52,10 +54,11 @@ status-requires-3 c κs = search needs
 returns-3 : tie.Need-returns-3
 unfolding createConnection
 returns-3 c = λ k h.
-    let p = c .before .before .before .before .before .before .before .before .before .before .before .args .p .now in
+    let p = c .before .before .before .before .before .before .before .before .before .before .before .before .args .p .now in
     let valid : connectionParamsValid (word p 13) (word p 15) (word p 17) (word p 19) ≡ true =
     passed (rw (c .before .before .before .before .before .before .before .word-at .ensures, c .before .before .before .before .before .before .word-at2 .ensures, c .before .before .before .before .before .word-at3 .ensures, c .before .before .before .before .word-at4 .ensures) at (c .before .before .before .connection-params-valid .ensures)) (c .before .before .if2 .left) in
-    gives-answer (c .status3 .ensures) (λ size pool. rw (c .before .before .before .before .before .before .before .before .if1 .left, valid)) (holds-scanning h _)
+    let idle = eq-eqb _ 0 (c .before .before .before .before .before .before .before .before .if1 .left) in
+    gives-answer (c .status3 .ensures) (λ size pool. rw (idle, valid)) (holds-scanning h _)
 
 pub create-connection-spec : {M : Type 1} → statement M
 create-connection-spec =

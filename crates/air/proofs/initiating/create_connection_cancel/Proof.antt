@@ -1,6 +1,6 @@
 -- `air::initiating::create_connection_cancel` meets its contract.
 use mathlib.Core.Path.{refl}
-use borrow.Author.Tests.{not-true, not-false}
+use borrow.Author.Tests.{eq-eqb, ne-eqb}
 use Rattle.commands.specs.Air.{createConnectionCancel}
 use Rattle.commands.proofs.Giving.{answered-then, gives-answer, holds-scanning}
 use borrow.Author.Needs.{needs}
@@ -12,7 +12,7 @@ done-requires c κs = search needs
 
 returns : tie.Need-returns
 unfolding createConnectionCancel
-returns c = λ k h. gives-answer (c .done .ensures) (λ size pool. rw (not-true (c .before .before .before .before .args .s .scanning .initiating) (c .before .if1 .taken))) h
+returns c = λ k h. gives-answer (c .done .ensures) (λ size pool. rw (eq-eqb _ _ (c .before .if1 .taken))) h
 
 done-requires-2 : tie.Need-done-requires-2
 done-requires-2 c κs = search needs
@@ -25,7 +25,7 @@ unfolding createConnectionCancel
 returns-2 c = λ k h.
     let told = answered-then (c .followed-by-connection-failed .ensures) (c .before .done2 .ensures) refl in
     gives-answer (told .same, told .shaped)
-    (λ size pool. rw (not-false (c .before .before .before .before .before .args .s .scanning .initiating) (c .before .before .if1 .left)))
+    (λ size pool. rw (ne-eqb _ _ (c .before .before .if1 .left)))
     (holds-scanning h _)
 
 pub create-connection-cancel-spec : {M : Type 1} → statement M

@@ -1,6 +1,6 @@
 -- `link::keys::key_reply` meets its contract.
-use mathlib.Core.Bool.{false}
 use mathlib.Core.Path.{refl, sym, _∙_}
+use borrow.Author.Tests.{eq-eqb, ne-eqb}
 use borrow.Author.Needs.{needs}
 use Rattle.links.specs.Fields.{withLtkRequested}
 use Rattle.commands.proofs.Giving.{gives-answer, gives-changed}
@@ -20,7 +20,7 @@ returns : tie.Need-returns
 returns c event answer k held =
     let s = c .before .before .before .before in
     let e = sym (s .found .given .1) ∙ s .before .before .connection-of .ensures in
-    gives-answer (c .done-handle .ensures) (λ size pool. rw (← e, c .before .if1 .taken)) held
+    gives-answer (c .done-handle .ensures) (λ size pool. rw (← e, eq-eqb _ _ (c .before .if1 .taken))) held
 
 set-ltk-requested-requires : tie.Need-set-ltk-requested-requires
 set-ltk-requested-requires c κs = search needs
@@ -35,8 +35,8 @@ returns-2 : tie.Need-returns-2
 returns-2 c event answer k held =
     let s = c .before .before .before .before in
     let e = sym (s .found .given .1) ∙ s .before .before .connection-of .ensures in
-    gives-changed _ (withLtkRequested false) (λ x. refl) (c .set-ltk-requested .ensures) answer
-    (λ size pool. rw (← e, c .before .if1 .left)) held
+    gives-changed _ (withLtkRequested 0) (λ x. refl) (c .set-ltk-requested .ensures) answer
+    (λ size pool. rw (← e, ne-eqb _ _ (c .before .if1 .left))) held
 
 returns-3 : tie.Need-returns-3
 returns-3 c event answer k held =

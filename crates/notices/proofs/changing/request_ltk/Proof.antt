@@ -1,6 +1,5 @@
 -- `notices::changing::request_ltk` meets its contract.
 use mathlib.Core.Path.{_≡_, refl}
-use mathlib.Core.Bool.{true}
 use mathlib.Core.List.{_++_}
 use lib.ListN.{length}
 use borrow.Author.Tests.{not-true, not-false}
@@ -79,7 +78,7 @@ returns-2 c k held =
     let args = start .args in
     let eight : length (args .t3) ≡ 8 = search (needs, start .good .1 .1 .0) in
     let event = leEvent (args .s .masks) 0x05 (le 2 (args .handle) ++ args .t3 ++ le 2 (args .ediv)) in
-    gives-changed {expected = tells event} (args .handle) (withLtkRequested true) (λ x. refl)
+    gives-changed {expected = tells event} (args .handle) (withLtkRequested 1) (λ x. refl)
     (w .set-ltk-requested .ensures)
     (answered-then (c .followed-by-le .ensures) (s .before .silent .ensures) (rw (key-request refl eight (v .put-two .ensures) (u .put .ensures))))
     (λ size pool. rw (← s .has .ensures, not-false (s .has .result) (w .before .if1 .left))) held

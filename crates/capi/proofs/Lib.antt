@@ -1,0 +1,2 @@
+-- Laws for the proofs of the calls for C.
+pub mod Finding
