@@ -1,6 +1,6 @@
-/* The bay radio's LE controller for C and C++, one call at a time: what the archive libcapi.a has (crates/capi, where
- * each call's contract stands). For firmware; README.md beside this file shows the calls in the order in which a unit
- * makes them.
+/* The bay radio's LE controller for C and C++, one call at a time: what the archives libcontroller.a (the calls that take a
+ * state) and libcapi.a (HCI packets, the stream, AES) have; crates/controller and crates/capi say what each call gives. For
+ * firmware; README.md beside this file shows the calls in the order in which a unit makes them.
  *
  * You keep a wegrulsta_state. A call takes it by value and gives the new one back in its answer, beside a number: 0, or
  * the number of the first question (below, and docs/REFUSALS.md) whose answer is "no". A refused call changes nothing:
@@ -14,7 +14,7 @@
  * - The structs are this header's: x86-64 System V, size_t of 8 octets. wegrulsta_layout.h asserts it.
  * Nothing else. Any octets are a state and a profile, also read back from flash, damaged or zeroed; question 3 decides
  * whether a state holds together. Compare states field by field: octets between fields are not kept. Nothing is kept
- * inside the archive, so two states can be used on two threads. */
+ * inside the archives, so two states can be used on two threads. */
 #ifndef WEGRULSTA_H
 #define WEGRULSTA_H
 
@@ -24,10 +24,10 @@
 #include <stdbool.h>
 #endif
 
-#define WEGRULSTA_VERSION_MAJOR 1
+#define WEGRULSTA_VERSION_MAJOR 2
 #define WEGRULSTA_VERSION_MINOR 0
 #define WEGRULSTA_VERSION_PATCH 0
-#define WEGRULSTA_VERSION "1.0.0"
+#define WEGRULSTA_VERSION "2.0.0"
 
 /* Refusal numbers; each has its question, and never comes for another cause. */
 #define WEGRULSTA_ACCEPTED 0

@@ -3,26 +3,26 @@
 #ifndef WEGRULSTA_CALLS_H
 #define WEGRULSTA_CALLS_H
 
-/* A call that may tell the host something: number, the state after it, and how many octets of events stand at the front
- * of out. */
+/* A call that may tell the host something: the state after it, how many octets of events stand at the front of out, and
+ * its number. */
 typedef struct wegrulsta_told {
-    uint8_t number;
     wegrulsta_state state;
     size_t written;
+    uint8_t number;
 } wegrulsta_told;
 
 /* A call without a buffer. */
 typedef struct wegrulsta_changed {
-    uint8_t number;
     wegrulsta_state state;
+    uint8_t number;
 } wegrulsta_changed;
 
 /* A take: also how many packets stand at the front of out. */
 typedef struct wegrulsta_took {
-    uint8_t number;
     wegrulsta_state state;
     size_t count;
     size_t written;
+    uint8_t number;
 } wegrulsta_took;
 
 /* The queries. Where the number is not 0, the other field is 0. */

@@ -130,19 +130,19 @@ WEGRULSTA_AT(profile, adv_sets, 118);
 WEGRULSTA_AT(profile, num_command_packets, 119);
 
 WEGRULSTA_SIZE(told, 1168, 8);
-WEGRULSTA_AT(told, number, 0);
-WEGRULSTA_AT(told, state, 8);
-WEGRULSTA_AT(told, written, 1160);
+WEGRULSTA_AT(told, state, 0);
+WEGRULSTA_AT(told, written, 1152);
+WEGRULSTA_AT(told, number, 1160);
 
 WEGRULSTA_SIZE(changed, 1160, 8);
-WEGRULSTA_AT(changed, number, 0);
-WEGRULSTA_AT(changed, state, 8);
+WEGRULSTA_AT(changed, state, 0);
+WEGRULSTA_AT(changed, number, 1152);
 
 WEGRULSTA_SIZE(took, 1176, 8);
-WEGRULSTA_AT(took, number, 0);
-WEGRULSTA_AT(took, state, 8);
-WEGRULSTA_AT(took, count, 1160);
-WEGRULSTA_AT(took, written, 1168);
+WEGRULSTA_AT(took, state, 0);
+WEGRULSTA_AT(took, count, 1152);
+WEGRULSTA_AT(took, written, 1160);
+WEGRULSTA_AT(took, number, 1168);
 
 WEGRULSTA_SIZE(connected, 2, 1);
 WEGRULSTA_AT(connected, number, 0);

@@ -1,5 +1,5 @@
-//! Finds the two files of the source, which are compiled unchanged from where they lie, and says whether the archive of the
-//! port is there: the crate `wegrulsta` links it, by the same rule.
+//! Finds the two files of the source, which are compiled unchanged from where they lie, and says whether the archives of
+//! the port are there: the crate `wegrulsta` links them, by the same rule.
 use std::path::{Path, PathBuf};
 use std::{env, fs};
 
@@ -32,9 +32,9 @@ fn name_source(folder: &Path) {
     fs::write(out.join("source.rs"), lines).expect("the output folder can be written");
 }
 
-/// `cfg(archive)` says that `libcapi.a` and `libcapi_bench.a` are there.
+/// `cfg(archive)` says that `libcontroller.a`, `libcapi.a` and `libcapi_bench.a` are there.
 fn find_port(folder: &Path) {
-    let archives = ["libcapi.a", "libcapi_bench.a"].map(|name| folder.join(name));
+    let archives = ["libcontroller.a", "libcapi.a", "libcapi_bench.a"].map(|name| folder.join(name));
     println!("cargo:rustc-check-cfg=cfg(archive)");
     for archive in &archives {
         println!("cargo:rerun-if-changed={}", archive.display());

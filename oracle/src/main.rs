@@ -157,7 +157,7 @@ fn say_who_answers(sides: &Sides) {
         println!("a difference is planted: {plant:?}");
     }
     if !port::LINKED {
-        println!("no libcapi.a and libcapi_bench.a were found when this was built: the source stands in for the port, so only the oracle is tried");
+        println!("libcontroller.a, libcapi.a or libcapi_bench.a was not found when this was built: the source stands in for the port, so only the oracle is tried");
     }
 }
 

@@ -35,13 +35,13 @@ pub use setting::set_masks;
 pub use setting::set_scanning;
 pub use setting::set_settings;
 
-// What a call gives that tells the host: 0 or the number of a refusal, the state after it, and how many octets of events stand at
-// the front of the buffer.
+// What a call gives that tells the host: the state after it, how many octets of events stand at the front of the buffer, and 0 or
+// the number of a refusal.
 #[repr(C)]
 pub struct Told {
-    pub number: u8,
     pub state: Controller,
     pub written: usize,
+    pub number: u8,
 }
 
 // What every command changes, and how many octets of events stand at the front of the buffer.

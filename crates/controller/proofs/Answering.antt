@@ -15,6 +15,7 @@ use Rattle.state.specs.Holding.{StateHolds, placeSize}
 use Rattle.state.specs.declared.Controller.{Controller}
 use Rattle.commands.specs.Outcome.{Outcome, GivesAny}
 use Rattle.notices.specs.Tells.{Tells}
+use Rattle.notices.proofs.Telling.{Alone}
 use Rattle.calls.specs.Packets.{Reply}
 use Rattle.calls.specs.Calls.{Call, held, firstNo, questions, told, replyTo, takenBy}
 use Rattle.calls.specs.Gives.{PoolLeft, GivesAnyPool, plain, events, profileOf}
@@ -50,14 +51,17 @@ module _ {f : Model → Outcome} {k : ControllerRow} {s t : Controller} {a : Ans
   answered : (size : ℕ) (pool : List ℕ) → answerOf a ≡ f (view s size pool) .answer
   answered size pool = ap (λ (o : Outcome). o .answer) (gives k holds .viewed size pool)
 
-  pub can-tell : {code : ℕ} {out : List ℕ} → ((m : Model) → Tells code (f m)) → 71 ≤ length out → CanTell a out
-  can-tell tells room =
+  pub can-tell-alone : {out : List ℕ} → ((m : Model) → Alone (f m)) → 71 ≤ length out → CanTell a out
+  can-tell-alone alone room =
       let e = answered 0 [] in
       record {
         holds = gives k holds .shaped;
-        alone = ap (λ (x : AnswerModel). x .octets) (e ∙ tells (view s 0 []) .silent);
+        alone = ap (λ (x : AnswerModel). x .octets) (e ∙ alone (view s 0 []) .silent);
         room = room;
       }
+
+  pub can-tell : {code : ℕ} {out : List ℕ} → ((m : Model) → Tells code (f m)) → 71 ≤ length out → CanTell a out
+  can-tell told room = can-tell-alone (λ m. record { silent = told m .silent }) room
 
   pub gives-told : {c : Call} {out after : List ℕ} {n : ℕ} → Notices f k c s t → Asks k c s out 0
       → Put out 0 (octetsOf 0 0 (answerOf a)) n after → GivesAnyPool k c s t (events 0 n out after)

@@ -32,24 +32,25 @@ unfolding firstNo
 first-yes n true l h = (refl, h)
 first-yes n false l h = absurd (omega (arith, h))
 
+module _ (k : ControllerRow) (holds : Bool) {n : ℕ} (asked : n ≡ aboutState k holds) where
+  pub state-refused : (n ≡ 0 → ⊥) → (more : List Question) → n ≡ firstNo (question 1 (withinLimits k) ∷ question 3 holds ∷ more)
+  state-refused h more = asked ∙ sym (first-no (question 1 (withinLimits k) ∷ question 3 holds ∷ []) more (λ z. h (asked ∙ z)))
+
+  pub state-answered : n ≡ 0 → (withinLimits k ≡ true) × (holds ≡ true)
+  state-answered zero =
+      let one = first-yes 0 (withinLimits k) (question 3 holds ∷ []) (sym asked ∙ zero) in
+      (one .0, first-yes 2 holds [] (one .1) .0)
+
 -- Questions 1 and 3 have a "yes": each as a test, and that the state holds together
 pub record StateAsked (k : ControllerRow) (s : Controller) : Type 0 where
   pub limits : withinLimits k ≡ true
   pub together : stateHolds s k ≡ true
   pub held : StateHolds s k
 
-module _ (k : ControllerRow) (s : Controller) {n : ℕ} (asked : n ≡ aboutState k s) where
-  pub state-refused : (n ≡ 0 → ⊥) → (more : List Question)
-      → n ≡ firstNo (question 1 (withinLimits k) ∷ question 3 (stateHolds s k) ∷ more)
-  state-refused h more =
-      let first = question 1 (withinLimits k) ∷ question 3 (stateHolds s k) ∷ [] in
-      asked ∙ sym (first-no first more (λ z. h (asked ∙ z)))
-
-  pub state-asked : n ≡ 0 → StateAsked k s
-  state-asked zero =
-      let one = first-yes 0 (withinLimits k) (question 3 (stateHolds s k) ∷ []) (sym asked ∙ zero) in
-      let three = first-yes 2 (stateHolds s k) [] (one .1) in
-      record { limits = one .0; together = three .0; held = state-told s k (three .0) }
+pub state-asked : (k : ControllerRow) (s : Controller) {n : ℕ} → n ≡ aboutState k (stateHolds s k) → n ≡ 0 → StateAsked k s
+state-asked k s asked zero =
+    let yes = state-answered k (stateHolds s k) asked zero in
+    record { limits = yes .0; together = yes .1; held = state-told s k (yes .1) }
 
 -- Questions 1, 3 and 5 have a "yes"
 pub record EventsAsked (k : ControllerRow) (s : Controller) (out : List ℕ) : Type 0 where
@@ -59,7 +60,7 @@ pub record EventsAsked (k : ControllerRow) (s : Controller) (out : List ℕ) : T
   pub eventRoom : leb 71 (length out) ≡ true
   pub room : 71 ≤ length out
 
-module _ (k : ControllerRow) (s : Controller) (out : List ℕ) {n : ℕ} (asked : n ≡ aboutEvents k s (length out)) where
+module _ (k : ControllerRow) (s : Controller) (out : List ℕ) {n : ℕ} (asked : n ≡ aboutEvents k (stateHolds s k) (length out)) where
   pub events-refused : (n ≡ 0 → ⊥) → (more : List Question)
       → n ≡ firstNo (question 1 (withinLimits k) ∷ question 3 (stateHolds s k) ∷ question 5 (leb 71 (length out)) ∷ more)
   events-refused h more =
@@ -80,7 +81,7 @@ module _ (k : ControllerRow) (s : Controller) (out : List ℕ) {n : ℕ} (asked 
       }
 
 -- Questions 1, 3 and 4 have a "yes"
-pub pool-asked : (k : ControllerRow) (s : Controller) (n : ℕ) → aboutPool k s n ≡ 0
+pub pool-asked : (k : ControllerRow) (s : Controller) (n : ℕ) → aboutPool k (stateHolds s k) n ≡ 0
     → (withinLimits k ≡ true) × (stateHolds s k ≡ true) × (leb (k .«acl_count» * placeSize k) n ≡ true)
 pool-asked k s n e =
     let room = leb (k .«acl_count» * placeSize k) n in

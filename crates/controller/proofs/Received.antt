@@ -25,9 +25,10 @@ use Rattle.command.specs.declared.course.Course.the-variants as course
 use Rattle.command.specs.Calling.{answeredBy, carriedBy, CanCarry, Gave}
 use Rattle.calls.specs.Calls.{onPacket, Held, held}
 use Rattle.calls.specs.Gives.{Accepted, Gives, events, profileOf}
+use Rattle.receive.specs.declared.Delivered.{Delivered}
 use Rattle.receive.specs.declared.Task.{Task}
 use Rattle.receive.specs.declared.Task.the-variants as task
-use Rattle.receive.specs.Receiving.{IsCommand, parametersOf, Quiet, Tasks, Delivers}
+use Rattle.receive.specs.Receiving.{IsCommand, parametersOf, Quiet, Tasks, Delivers, putDelivered}
 use Rattle.receive.proofs.Carrying.{params-long, carries-none, carries-course}
 use Rattle.receive.proofs.Accepting.{accepted-command, accepted-data, accepted-nothing}
 use Rattle.controller.specs.Asked.{question, aboutPacket, CanReceive}
@@ -88,10 +89,11 @@ module _ {k : ControllerRow} {opcodes answers : List ℕ} (bits address : List �
       accepted (same .0)
       (accepted-command first (carries-none (quiet (profileOf k opcodes answers bits) address random) (same .1, same .2) (can-receive k opcodes answers bits s pool out asked none .store .ready .holds)))
 
-  pub gives-data : {r : Told} {left : List ℕ} → octet p 0 ≡ 2
-      → (r .number ≡ 0) × (r .written ≡ 0) × Delivers k p (held s pool) (held (r .state) left)
+  pub gives-data : {d : Delivered} {r : Told} {left : List ℕ} → octet p 0 ≡ 2
+      → Delivers k p (held s pool) (held (putDelivered d s) left)
+      → (r .number ≡ 0) × (r .written ≡ 0) × (r .state ≡ putDelivered d s)
       → Gives (profileOf k opcodes answers bits) (onPacket address random p) (held s pool) (held (r .state) left) (events (r .number) (r .written) out out)
-  gives-data first does = accepted (does .0) (accepted-data first (does .1) (does .2))
+  gives-data first does told = rw (told .2) (accepted (told .0) (accepted-data first (told .1) does))
 
   module _ {op : ℕ} {r : Told} {after : List ℕ} where
     pub gives-answered : {reason : Reason} → IsCommand opcodes answers (s .settings .«advertising_family») p op (course.Answered reason)

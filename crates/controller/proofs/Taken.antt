@@ -13,7 +13,7 @@ use Rattle.profile.specs.Profile.{withinLimits}
 use Rattle.profile.proofs.Limits.{within-limits}
 use Rattle.links.specs.Links as links
 use Rattle.links.specs.declared.Links.{Links}
-use Rattle.transmit.specs.Transmit.{PoolFits, Takes, takenOctets, roomFor}
+use Rattle.transmit.specs.Transmit.{PoolFits, withTaken, Takes, takenOctets, roomFor}
 use Rattle.transmit.specs.declared.Taken.{Taken}
 use Rattle.state.specs.State.{Model, view}
 use Rattle.state.specs.Holding.{stateHolds, placeSize}
@@ -34,7 +34,7 @@ take-room {s} {size} {places} {handle} {most} {pool} {out} takes told =
     leb-true (length (takenOctets handle most (links.view s size pool))) (length out) (sym (takes .asked) ∙ told)
 
 -- questions 1, 3 and 4 answered "yes": the links and the pool are as `take` wants them
-pub take-fits : (k : ControllerRow) (s : Controller) (pool : List ℕ) {given : ℕ} → given ≡ aboutPool k s (length pool) → given ≡ 0
+pub take-fits : (k : ControllerRow) (s : Controller) (pool : List ℕ) {given : ℕ} → given ≡ aboutPool k (stateHolds s k) (length pool) → given ≡ 0
     → PoolFits (s .links) (placeSize k) (k .«acl_count») pool
 take-fits k s pool e z =
     let asked = pool-asked k s (length pool) (sym e ∙ z) in
@@ -48,7 +48,7 @@ take-fits k s pool e z =
 
 -- one of them has the answer "no"
 pub take-not : {k : ControllerRow} {handle most : ℕ} {s t : Controller} {pool out : List ℕ} {number given written count : ℕ}
-    → given ≡ aboutPool k s (length pool) → (given ≡ 0 → ⊥) → (number ≡ given) × (t ≡ s) × (count ≡ 0) × (written ≡ 0)
+    → given ≡ aboutPool k (stateHolds s k) (length pool) → (given ≡ 0 → ⊥) → (number ≡ given) × (t ≡ s) × (count ≡ 0) × (written ≡ 0)
     → GivesAnyRows k (takeTransmit handle most) (held s pool) (held t pool) (packets number written count out out)
 take-not {k} {handle} {most} {s} {t} {pool} {out} e told gave = λ opcodes answers bits. record {
   number =
@@ -63,7 +63,7 @@ take-not {k} {handle} {most} {s} {t} {pool} {out} e told gave = λ opcodes answe
 
 -- question 7 has the answer "no"
 pub take-no-room : {k : ControllerRow} {handle most : ℕ} {s t : Controller} {pool out after : List ℕ} {number given written count : ℕ}
-    {r : Taken} → given ≡ aboutPool k s (length pool) → given ≡ 0
+    {r : Taken} → given ≡ aboutPool k (stateHolds s k) (length pool) → given ≡ 0
     → Takes (s .links) (placeSize k) (k .«acl_count») handle most pool out r after → not (r .fits) ≡ true
     → (number ≡ 7) × (t ≡ s) × (count ≡ 0) × (written ≡ 0)
     → GivesAnyRows k (takeTransmit handle most) (held s pool) (held t pool) (packets number written count out after)
@@ -83,9 +83,10 @@ take-no-room {k} {handle} {most} {s} {t} {pool} {r = r} e z takes short gave =
 
 -- all have "yes": the packets, and the links without them
 pub take-gives : {k : ControllerRow} {handle most given : ℕ} {s : Controller} {pool out after : List ℕ} {r : Taken}
-    → given ≡ aboutPool k s (length pool) → given ≡ 0
+    → given ≡ aboutPool k (stateHolds s k) (length pool) → given ≡ 0
     → Takes (s .links) (placeSize k) (k .«acl_count») handle most pool out r after → not (r .fits) ≡ false
-    → GivesAnyRows k (takeTransmit handle most) (held s pool) (held (putLinks (r .links) s) pool) (packets 0 (r .len) (r .count) out after)
+    → GivesAnyRows k (takeTransmit handle most) (held s pool) (held (putLinks (withTaken r (s .links)) s) pool)
+    (packets 0 (r .len) (r .count) out after)
 unfolding firstNo
 take-gives {k} {handle} {most} {given} {s} {pool} {out} {after} {r} e z takes fits =
     let asked = pool-asked k s (length pool) (sym e ∙ z) in

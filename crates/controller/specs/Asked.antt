@@ -10,7 +10,7 @@ use Rattle.profile.specs.declared.ControllerRow.{ControllerRow}
 use Rattle.profile.specs.Profile.{withinLimits, rowsFit, answersFit}
 use Rattle.answers.specs.declared.Answer.{Answer}
 use Rattle.answers.specs.Answers.{AnswerHolds, answerOf}
-use Rattle.state.specs.Holding.{stateHolds, placeSize}
+use Rattle.state.specs.Holding.{placeSize}
 use Rattle.state.specs.declared.Controller.{Controller}
 use Rattle.calls.specs.Calls.{Question, firstNo}
 use Rattle.receive.specs.Receiving.{CanStore}
@@ -18,20 +18,20 @@ use Rattle.receive.specs.Receiving.{CanStore}
 abbrev pub question : ℕ → Bool → Question
 question n answer = record { number = n; yes = answer }
 
--- questions 1 and 3
-abbrev pub aboutState : ControllerRow → Controller → ℕ
-aboutState k s = firstNo (question 1 (withinLimits k) ∷ question 3 (stateHolds s k) ∷ [])
+-- questions 1 and 3, where `holds` is the answer to the third, here and below
+abbrev pub aboutState : ControllerRow → Bool → ℕ
+aboutState k holds = firstNo (question 1 (withinLimits k) ∷ question 3 holds ∷ [])
 
 -- 1, 3 and 5, with an event buffer of so many octets
-abbrev pub aboutEvents : ControllerRow → Controller → ℕ → ℕ
-aboutEvents k s room = firstNo (question 1 (withinLimits k) ∷ question 3 (stateHolds s k) ∷ question 5 (leb 71 room) ∷ [])
+abbrev pub aboutEvents : ControllerRow → Bool → ℕ → ℕ
+aboutEvents k holds room = firstNo (question 1 (withinLimits k) ∷ question 3 holds ∷ question 5 (leb 71 room) ∷ [])
 
 -- 1, 3 and 4, with a pool of so many octets
-abbrev pub aboutPool : ControllerRow → Controller → ℕ → ℕ
-aboutPool k s pool =
-    firstNo (question 1 (withinLimits k) ∷ question 3 (stateHolds s k) ∷ question 4 (leb (k .«acl_count» * placeSize k) pool) ∷ [])
+abbrev pub aboutPool : ControllerRow → Bool → ℕ → ℕ
+aboutPool k holds pool =
+    firstNo (question 1 (withinLimits k) ∷ question 3 holds ∷ question 4 (leb (k .«acl_count» * placeSize k) pool) ∷ [])
 
--- 1 to 5, of which the third has this answer
+-- 1 to 5
 abbrev pub aboutPacket : ControllerRow → List ℕ → List ℕ → List ℕ → Bool → ℕ → ℕ → ℕ
 aboutPacket k opcodes answers bits holds pool room =
     firstNo (question 1 (withinLimits k) ∷ question 2 (rowsFit opcodes answers bits) ∷ question 3 holds

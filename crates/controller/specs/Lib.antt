@@ -1,2 +1,3 @@
--- What the inner functions of `controller` give; the exported calls' contracts are in `calls`.
+-- What the exported calls' contracts say of their answers, which `calls` defines, and what the inner functions give.
+pub mod Answers
 pub mod Asked

@@ -1,6 +1,6 @@
 // The link's notices that a link's parameters changed or that its key is asked for.
 ghost use Rattle.calls.specs.Calls as call;
-ghost use Rattle.calls.specs.Gives.{GivesAnyPool, events};
+ghost use Rattle.controller.specs.Answers.{Tells};
 use crate::Told;
 use crate::questions;
 use crate::telling;
@@ -8,7 +8,8 @@ use profile::ControllerRow;
 use state::Controller;
 
 // The central applied a connection update.
-pub fn peer_update(
+#[no_mangle]
+pub extern "C" fn wegrulsta_update(
     profile: ControllerRow,
     s: Controller,
     handle: u16,
@@ -17,9 +18,10 @@ pub fn peer_update(
     timeout: u16,
     out: &mut [u8],
 ) -> Told
-    ensures { λ r. ⌜ GivesAnyPool profile (call.peerUpdate handle interval latency timeout) s (r .state) (events (r .number) (r .written) (now (out .entry)) (now (out .exit))) ⌝ }
+    ensures { λ r. ⌜ Tells profile (call.peerUpdate handle interval latency timeout) s (now (out .entry)) r (now (out .exit)) ⌝ }
 {
-    let number = questions::about_events(profile, s, out.len());
+    let held = state::holds(s, profile);
+    let number = questions::about_events(profile, held, out.len());
     if number != 0 {
         return Told {
             number,
@@ -29,8 +31,10 @@ pub fn peer_update(
     }
     let r = notices::peer_update(s, handle, interval, latency, timeout);
     let answer = r.answer;
-    let t = r.state;
     let written = telling::tell(answer, out);
+    let links = r.links;
+    let mut t = s;
+    t.links = links;
     Told {
         number: 0,
         state: t,
@@ -39,17 +43,21 @@ pub fn peer_update(
 }
 
 // A central starts encryption.
-pub fn request_ltk(
+#[no_mangle]
+pub extern "C" fn wegrulsta_request_key(
     profile: ControllerRow,
     s: Controller,
     handle: u16,
-    random: [u8; 8],
+    random: &[u8; 8],
     ediv: u16,
     out: &mut [u8],
 ) -> Told
-    ensures { λ r. ⌜ GivesAnyPool profile (call.requestLtk handle random ediv) s (r .state) (events (r .number) (r .written) (now (out .entry)) (now (out .exit))) ⌝ }
+    ensures { λ r. ⌜
+        Tells profile (call.requestLtk handle (now (random .entry)) ediv) s (now (out .entry)) r (now (out .exit))
+        ⌝ }
 {
-    let number = questions::about_events(profile, s, out.len());
+    let held = state::holds(s, profile);
+    let number = questions::about_events(profile, held, out.len());
     if number != 0 {
         return Told {
             number,
@@ -57,10 +65,12 @@ pub fn request_ltk(
             written: 0,
         };
     }
-    let r = notices::request_ltk(s, handle, random, ediv);
+    let r = notices::request_ltk(s, handle, *random, ediv);
     let answer = r.answer;
-    let t = r.state;
     let written = telling::tell(answer, out);
+    let links = r.links;
+    let mut t = s;
+    t.links = links;
     Told {
         number: 0,
         state: t,

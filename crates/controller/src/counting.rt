@@ -1,6 +1,6 @@
 // The link's notices about packets that it took: completed, or gone with their link.
 ghost use Rattle.calls.specs.Calls as call;
-ghost use Rattle.calls.specs.Gives.{GivesAnyPool, plain, events};
+ghost use Rattle.controller.specs.Answers.{Tells, Changes};
 use crate::Changed;
 use crate::Told;
 use crate::questions;
@@ -9,16 +9,18 @@ use profile::ControllerRow;
 use state::Controller;
 
 // So many packets of a link were completed.
-pub fn completed(
+#[no_mangle]
+pub extern "C" fn wegrulsta_completed(
     profile: ControllerRow,
     s: Controller,
     handle: u16,
     count: u16,
     out: &mut [u8],
 ) -> Told
-    ensures { λ r. ⌜ GivesAnyPool profile (call.completed handle count) s (r .state) (events (r .number) (r .written) (now (out .entry)) (now (out .exit))) ⌝ }
+    ensures { λ r. ⌜ Tells profile (call.completed handle count) s (now (out .entry)) r (now (out .exit)) ⌝ }
 {
-    let number = questions::about_events(profile, s, out.len());
+    let held = state::holds(s, profile);
+    let number = questions::about_events(profile, held, out.len());
     if number != 0 {
         return Told {
             number,
@@ -28,8 +30,10 @@ pub fn completed(
     }
     let r = notices::completed(s, handle, count);
     let answer = r.answer;
-    let t = r.state;
     let written = telling::tell(answer, out);
+    let links = r.links;
+    let mut t = s;
+    t.links = links;
     Told {
         number: 0,
         state: t,
@@ -38,15 +42,19 @@ pub fn completed(
 }
 
 // So many packets in flight are gone with their link; the host is told nothing.
-pub fn drop_in_flight(profile: ControllerRow, s: Controller, count: u16) -> Changed
-    ensures { λ r. ⌜ GivesAnyPool profile (call.dropInFlight count) s (r .state) (plain (r .number)) ⌝ }
+#[no_mangle]
+pub extern "C" fn wegrulsta_drop(profile: ControllerRow, s: Controller, count: u16) -> Changed
+    ensures { λ r. ⌜ Changes profile (call.dropInFlight count) s r ⌝ }
 {
-    let number = questions::about_state(profile, s);
+    let held = state::holds(s, profile);
+    let number = questions::about_state(profile, held);
     if number != 0 {
         return Changed { number, state: s };
     }
     let r = notices::drop_in_flight(s, count);
-    let t = r.state;
+    let links = r.links;
+    let mut t = s;
+    t.links = links;
     Changed {
         number: 0,
         state: t,

@@ -1,6 +1,6 @@
 // The link's notices of a link's end.
 ghost use Rattle.calls.specs.Calls as call;
-ghost use Rattle.calls.specs.Gives.{GivesAnyPool, events};
+ghost use Rattle.controller.specs.Answers.{Tells};
 use crate::Told;
 use crate::questions;
 use crate::telling;
@@ -8,16 +8,18 @@ use profile::ControllerRow;
 use state::Controller;
 
 // The peer ended the link, for this reason.
-pub fn remote_disconnect(
+#[no_mangle]
+pub extern "C" fn wegrulsta_remote_disconnect(
     profile: ControllerRow,
     s: Controller,
     handle: u16,
     reason: u8,
     out: &mut [u8],
 ) -> Told
-    ensures { λ r. ⌜ GivesAnyPool profile (call.remoteDisconnect handle reason) s (r .state) (events (r .number) (r .written) (now (out .entry)) (now (out .exit))) ⌝ }
+    ensures { λ r. ⌜ Tells profile (call.remoteDisconnect handle reason) s (now (out .entry)) r (now (out .exit)) ⌝ }
 {
-    let number = questions::about_events(profile, s, out.len());
+    let held = state::holds(s, profile);
+    let number = questions::about_events(profile, held, out.len());
     if number != 0 {
         return Told {
             number,
@@ -27,8 +29,10 @@ pub fn remote_disconnect(
     }
     let r = notices::remote_disconnect(s, handle, reason);
     let answer = r.answer;
-    let t = r.state;
     let written = telling::tell(answer, out);
+    let links = r.links;
+    let mut t = s;
+    t.links = links;
     Told {
         number: 0,
         state: t,
@@ -37,15 +41,17 @@ pub fn remote_disconnect(
 }
 
 // The peer acknowledged the host's Disconnect.
-pub fn complete_disconnect(
+#[no_mangle]
+pub extern "C" fn wegrulsta_complete_disconnect(
     profile: ControllerRow,
     s: Controller,
     handle: u16,
     out: &mut [u8],
 ) -> Told
-    ensures { λ r. ⌜ GivesAnyPool profile (call.completeDisconnect handle) s (r .state) (events (r .number) (r .written) (now (out .entry)) (now (out .exit))) ⌝ }
+    ensures { λ r. ⌜ Tells profile (call.completeDisconnect handle) s (now (out .entry)) r (now (out .exit)) ⌝ }
 {
-    let number = questions::about_events(profile, s, out.len());
+    let held = state::holds(s, profile);
+    let number = questions::about_events(profile, held, out.len());
     if number != 0 {
         return Told {
             number,
@@ -55,8 +61,10 @@ pub fn complete_disconnect(
     }
     let r = notices::complete_disconnect(s, handle);
     let answer = r.answer;
-    let t = r.state;
     let written = telling::tell(answer, out);
+    let links = r.links;
+    let mut t = s;
+    t.links = links;
     Told {
         number: 0,
         state: t,

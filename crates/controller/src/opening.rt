@@ -1,7 +1,7 @@
 // The link's notices that a link opened, by itself or by a central's request to connect, or that advertising ended without one.
 ghost use mathlib.Core.Path.{_≡_};
 ghost use Rattle.calls.specs.Calls as call;
-ghost use Rattle.calls.specs.Gives.{GivesAnyPool, plain, events};
+ghost use Rattle.controller.specs.Answers.{Tells, Changes, isRandom};
 use crate::Changed;
 use crate::Told;
 use crate::questions;
@@ -10,7 +10,8 @@ use profile::ControllerRow;
 use state::Controller;
 
 // A link opened. Question 6: is the handle present, or one of sixteen places free?
-pub fn open_connection(
+#[no_mangle]
+pub extern "C" fn wegrulsta_open(
     profile: ControllerRow,
     s: Controller,
     handle: u16,
@@ -18,9 +19,10 @@ pub fn open_connection(
     latency: u16,
     timeout: u16,
 ) -> Changed
-    ensures { λ r. ⌜ GivesAnyPool profile (call.openConnection handle interval latency timeout) s (r .state) (plain (r .number)) ⌝ }
+    ensures { λ r. ⌜ Changes profile (call.openConnection handle interval latency timeout) s r ⌝ }
 {
-    let number = questions::about_state(profile, s);
+    let held = state::holds(s, profile);
+    let number = questions::about_state(profile, held);
     if number != 0 {
         return Changed { number, state: s };
     }
@@ -31,7 +33,9 @@ pub fn open_connection(
         };
     }
     let r = notices::open_connection(s, handle, interval, latency, timeout);
-    let t = r.state;
+    let links = r.links;
+    let mut t = s;
+    t.links = links;
     Changed {
         number: 0,
         state: t,
@@ -49,22 +53,27 @@ fn refused(number: u8, s: Controller) -> Told
     }
 }
 
-// A central's request to connect was accepted. Questions 5 and 6.
-pub fn accept_connection(
+// A central's request to connect was accepted, from an address that is public where its type is 0. Questions 5 and 6.
+#[no_mangle]
+pub extern "C" fn wegrulsta_accept(
     profile: ControllerRow,
     s: Controller,
     handle: u16,
-    peer_random: bool,
-    peer: [u8; 6],
+    peer_type: u8,
+    peer: &[u8; 6],
     interval: u16,
     latency: u16,
     timeout: u16,
     sca: u8,
     out: &mut [u8],
 ) -> Told
-    ensures { λ r. ⌜ GivesAnyPool profile (call.acceptConnection handle «peer_random» peer interval latency timeout sca) s (r .state) (events (r .number) (r .written) (now (out .entry)) (now (out .exit))) ⌝ }
+    ensures { λ r. ⌜
+        Tells profile (call.acceptConnection handle (isRandom «peer_type») (now (peer .entry)) interval latency timeout sca)
+        s (now (out .entry)) r (now (out .exit))
+        ⌝ }
 {
-    let number = questions::about_events(profile, s, out.len());
+    let held = state::holds(s, profile);
+    let number = questions::about_events(profile, held, out.len());
     if number != 0 {
         return refused(number, s);
     }
@@ -74,8 +83,8 @@ pub fn accept_connection(
     let r = notices::accept_connection(
         s,
         handle,
-        peer_random,
-        peer,
+        peer_type != 0,
+        *peer,
         interval,
         latency,
         timeout,
@@ -92,10 +101,16 @@ pub fn accept_connection(
 }
 
 // High duty cycle directed advertising ended unanswered.
-pub fn advertising_timeout(profile: ControllerRow, s: Controller, out: &mut [u8]) -> Told
-    ensures { λ r. ⌜ GivesAnyPool profile (call.advertisingTimeout) s (r .state) (events (r .number) (r .written) (now (out .entry)) (now (out .exit))) ⌝ }
+#[no_mangle]
+pub extern "C" fn wegrulsta_advertising_timeout(
+    profile: ControllerRow,
+    s: Controller,
+    out: &mut [u8],
+) -> Told
+    ensures { λ r. ⌜ Tells profile (call.advertisingTimeout) s (now (out .entry)) r (now (out .exit)) ⌝ }
 {
-    let number = questions::about_events(profile, s, out.len());
+    let held = state::holds(s, profile);
+    let number = questions::about_events(profile, held, out.len());
     if number != 0 {
         return Told {
             number,

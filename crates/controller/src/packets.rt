@@ -1,9 +1,10 @@
-// Packets from the host. Each way through `on_packet` returns by itself and puts the state together where it returns: the compiler
+// Packets from the host. Each way through the call returns by itself and puts the state together where it returns: the compiler
 // then writes it where the caller finds it, and copies it no more often than it must (docs/SPEED.md).
 ghost use mathlib.Core.Path.{_≡_};
 ghost use Rattle.calls.specs.Calls as call;
 ghost use Rattle.calls.specs.Calls.{held};
-ghost use Rattle.calls.specs.Gives.{Gives, events, profileOf};
+ghost use Rattle.calls.specs.Gives.{Gives, profileOf};
+ghost use Rattle.controller.specs.Answers.{told};
 use crate::Told;
 use crate::questions::about_packet;
 use command::answered;
@@ -23,19 +24,25 @@ use state::Controller;
 
 // A packet of the host. The rows are opcodes, how each is answered, and their bit numbers; address is the public address, and
 // random the number that Rand returns, lowest octet first.
-pub fn on_packet(
+#[no_mangle]
+pub extern "C" fn wegrulsta_packet(
     profile: ControllerRow,
     opcodes: &[u16],
     answers: &[u8],
     bits: &[u16],
     s: Controller,
     pool: &mut [u8],
-    address: [u8; 6],
+    address: &[u8; 6],
     random: u64,
     packet: &[u8],
     out: &mut [u8],
 ) -> Told
-    ensures { λ r. ⌜ Gives (profileOf profile (now (opcodes .entry)) (now (answers .entry)) (now (bits .entry))) (call.onPacket address random (now (packet .entry))) (held s (now (pool .entry))) (held (r .state) (now (pool .exit))) (events (r .number) (r .written) (now (out .entry)) (now (out .exit))) ⌝ }
+    ensures { λ r. ⌜
+        Gives (profileOf profile (now (opcodes .entry)) (now (answers .entry)) (now (bits .entry)))
+        (call.onPacket (now (address .entry)) random (now (packet .entry)))
+        (held s (now (pool .entry))) (held (r .state) (now (pool .exit)))
+        (told r (now (out .entry)) (now (out .exit)))
+        ⌝ }
 {
     let held = state::holds(s, profile);
     let number = about_packet(profile, opcodes, answers, bits, held, pool.len(), out.len());
@@ -46,10 +53,10 @@ pub fn on_packet(
     let p = receive::parameters(packet);
     match task {
         Task::Nothing => return unchanged(0, s),
-        Task::Data => return receive::data(s, profile, pool, packet),
+        Task::Data => return receive::data(s, profile, pool, packet).told(s),
         Task::Answered(op, reason) => return answered(s, profile, reason, op, out).told(s),
         Task::Carried(op, part) => match part {
-            Part::Nothing => return read(s, profile, address, random, op, p, out).told(s),
+            Part::Nothing => return read(s, profile, *address, random, op, p, out).told(s),
             Part::Masks => return set_masks(s, profile, op, p, out).told(s),
             Part::Settings => return set_settings(s, profile, op, p, out).told(s),
             Part::Advertising => return set_advertising(s, profile, op, p, out).told(s),

@@ -1,9 +1,11 @@
 // What a user may ask of a controller, and the state that it starts with. A refused query answers false, nothing or 0.
+ghost use mathlib.Core.Path.{_≡_};
 ghost use mathlib.Core.Bool.{false};
 ghost use Rattle.links.specs.Links as links;
 ghost use Rattle.links.specs.Look.{terminatingOf};
 ghost use Rattle.links.specs.declared.DisconnectReason.the-variants.{Nothing};
 ghost use Rattle.calls.specs.Gives.{Finds, FindsBitmap, Starts};
+ghost use Rattle.controller.specs.Answers.{reasonOctet, terminatingReason};
 use crate::questions;
 use links::DisconnectReason;
 use profile::ControllerRow;
@@ -18,6 +20,13 @@ pub struct Connected {
 pub struct DisconnectWaits {
     pub number: u8,
     pub reason: DisconnectReason,
+}
+
+// The same for C: 0 where no Disconnect waits, since no reason is 0.
+#[repr(C)]
+pub struct ReasonTold {
+    pub number: u8,
+    pub reason: u8,
 }
 
 #[repr(C)]
@@ -39,10 +48,16 @@ pub struct Bitmap {
 }
 
 // Whether a link has this handle.
-pub fn has_connection(profile: ControllerRow, s: Controller, handle: u16) -> Connected
+#[no_mangle]
+pub extern "C" fn wegrulsta_has_connection(
+    profile: ControllerRow,
+    s: Controller,
+    handle: u16,
+) -> Connected
     ensures { λ r. ⌜ Finds profile s (λ m. links.has handle (m .links .connections)) false (r .number) (r .connected) ⌝ }
 {
-    let number = questions::about_state(profile, s);
+    let held = state::holds(s, profile);
+    let number = questions::about_state(profile, held);
     if number != 0 {
         return Connected {
             number,
@@ -60,7 +75,8 @@ pub fn has_connection(profile: ControllerRow, s: Controller, handle: u16) -> Con
 pub fn terminating(profile: ControllerRow, s: Controller, handle: u16) -> DisconnectWaits
     ensures { λ r. ⌜ Finds profile s (λ m. terminatingOf handle (m .links .connections)) Nothing (r .number) (r .reason) ⌝ }
 {
-    let number = questions::about_state(profile, s);
+    let held = state::holds(s, profile);
+    let number = questions::about_state(profile, held);
     if number != 0 {
         let none = DisconnectReason::Nothing;
         return DisconnectWaits {
@@ -72,11 +88,40 @@ pub fn terminating(profile: ControllerRow, s: Controller, handle: u16) -> Discon
     DisconnectWaits { number: 0, reason }
 }
 
+// The same for C, which has no enums that hold a value.
+#[no_mangle]
+pub extern "C" fn wegrulsta_terminating(
+    profile: ControllerRow,
+    s: Controller,
+    handle: u16,
+) -> ReasonTold
+    ensures { λ r. ⌜ Finds profile s (terminatingReason handle) 0 (r .number) (r .reason) ⌝ }
+{
+    let r = terminating(profile, s, handle);
+    let reason = r.reason;
+    ReasonTold {
+        number: r.number,
+        reason: reason_octet(reason),
+    }
+}
+
+// The reason as an octet.
+fn reason_octet(reason: DisconnectReason) -> u8
+    ensures { λ r. ⌜ r ≡ reasonOctet reason ⌝ }
+{
+    match reason {
+        DisconnectReason::Reason(code) => code,
+        DisconnectReason::Nothing => 0,
+    }
+}
+
 // The lowest handle from 1 that no link has.
-pub fn free_handle(profile: ControllerRow, s: Controller) -> FreeHandle
+#[no_mangle]
+pub extern "C" fn wegrulsta_free_handle(profile: ControllerRow, s: Controller) -> FreeHandle
     ensures { λ r. ⌜ Finds profile s (λ m. links.freeHandle (m .links .connections)) 0 (r .number) (r .handle) ⌝ }
 {
-    let number = questions::about_state(profile, s);
+    let held = state::holds(s, profile);
+    let number = questions::about_state(profile, held);
     if number != 0 {
         return FreeHandle { number, handle: 0 };
     }
@@ -85,10 +130,12 @@ pub fn free_handle(profile: ControllerRow, s: Controller) -> FreeHandle
 }
 
 // How many buffers are in use: packets that wait in all links, and those in flight.
-pub fn acl_buffers_in_use(profile: ControllerRow, s: Controller) -> InUse
+#[no_mangle]
+pub extern "C" fn wegrulsta_buffers_in_use(profile: ControllerRow, s: Controller) -> InUse
     ensures { λ r. ⌜ Finds profile s (λ m. links.inUse (m .links)) 0 (r .number) (r .count) ⌝ }
 {
-    let number = questions::about_state(profile, s);
+    let held = state::holds(s, profile);
+    let number = questions::about_state(profile, held);
     if number != 0 {
         return InUse { number, count: 0 };
     }
@@ -97,7 +144,8 @@ pub fn acl_buffers_in_use(profile: ControllerRow, s: Controller) -> InUse
 }
 
 // The Supported_Commands bit map (Core Vol 4 Part E section 6.27) of the rows that are not unknown. Question 2.
-pub fn row_bitmap(opcodes: &[u16], answers: &[u8], bits: &[u16]) -> Bitmap
+#[no_mangle]
+pub extern "C" fn wegrulsta_row_bitmap(opcodes: &[u16], answers: &[u8], bits: &[u16]) -> Bitmap
     ensures { λ r. ⌜ FindsBitmap (now (opcodes .entry)) (now (answers .entry)) (now (bits .entry)) (r .number) (r .map) ⌝ }
 {
     if !profile::rows_fit(opcodes, answers, bits) {
@@ -111,7 +159,8 @@ pub fn row_bitmap(opcodes: &[u16], answers: &[u8], bits: &[u16]) -> Bitmap
 }
 
 // The state that a controller starts with.
-pub fn default_state() -> Controller
+#[no_mangle]
+pub extern "C" fn wegrulsta_start() -> Controller
     ensures { λ r. ⌜ Starts r ⌝ }
 {
     state::default_state()

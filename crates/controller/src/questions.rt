@@ -1,33 +1,33 @@
-// The questions that several calls begin with. Each function gives 0, or the number of the first question with a "no".
+// The questions that several calls begin with. Each function gives 0, or the number of the first question with a "no". The calls ask
+// question 3 themselves, and `held` is its answer: the state would be copied to be handed on from here (docs/SPEED.md).
 ghost use mathlib.Core.Path.{_≡_};
 ghost use Prim.Native.Nat.{_*_};
 ghost use lib.Dec.{leb};
 ghost use Rattle.state.specs.Holding.{placeSize};
 ghost use Rattle.controller.specs.Asked.{aboutState, aboutEvents, aboutPool, aboutPacket};
 use profile::ControllerRow;
-use state::Controller;
 
 // What a call gets that no question refuses.
 const ACCEPTED: u8 = 0;
 
 // 1: is the profile within its limits? 3: does the state hold together?
-pub fn about_state(profile: ControllerRow, s: Controller) -> u8
-    ensures { λ r. ⌜ r ≡ aboutState profile s ⌝ }
+pub fn about_state(profile: ControllerRow, held: bool) -> u8
+    ensures { λ r. ⌜ r ≡ aboutState profile held ⌝ }
 {
     if !profile::within_limits(profile) {
         return 1;
     }
-    if !state::holds(s, profile) {
+    if !held {
         return 3;
     }
     ACCEPTED
 }
 
 // 1, 3, and 5: has the event buffer 71 octets or more?
-pub fn about_events(profile: ControllerRow, s: Controller, room: usize) -> u8
-    ensures { λ r. ⌜ r ≡ aboutEvents profile s room ⌝ }
+pub fn about_events(profile: ControllerRow, held: bool, room: usize) -> u8
+    ensures { λ r. ⌜ r ≡ aboutEvents profile held room ⌝ }
 {
-    let number = about_state(profile, s);
+    let number = about_state(profile, held);
     if number != 0 {
         return number;
     }
@@ -47,10 +47,10 @@ fn pool_fits(profile: ControllerRow, pool: usize) -> bool
 }
 
 // 1, 3 and 4.
-pub fn about_pool(profile: ControllerRow, s: Controller, pool: usize) -> u8
-    ensures { λ r. ⌜ r ≡ aboutPool profile s pool ⌝ }
+pub fn about_pool(profile: ControllerRow, held: bool, pool: usize) -> u8
+    ensures { λ r. ⌜ r ≡ aboutPool profile held pool ⌝ }
 {
-    let number = about_state(profile, s);
+    let number = about_state(profile, held);
     if number != 0 {
         return number;
     }
@@ -60,8 +60,7 @@ pub fn about_pool(profile: ControllerRow, s: Controller, pool: usize) -> u8
     ACCEPTED
 }
 
-// 1, 2: are the rows' slices equally long, at most 256, answers at most 2?, 3, to which `held` is the answer, 4 and 5. `on_packet`
-// asks question 3 itself: the state would be copied to be handed on from here (docs/SPEED.md).
+// 1, 2: are the rows' slices equally long, at most 256, answers at most 2?, 3, 4 and 5.
 pub fn about_packet(
     profile: ControllerRow,
     opcodes: &[u16],

@@ -2,14 +2,16 @@
 ghost use mathlib.Core.Path.{_≡_};
 ghost use Rattle.calls.specs.Calls as call;
 ghost use Rattle.calls.specs.Calls.{held};
-ghost use Rattle.calls.specs.Gives.{GivesAnyRows, packets};
+ghost use Rattle.calls.specs.Gives.{GivesAnyRows};
+ghost use Rattle.controller.specs.Answers.{took};
 use crate::Took;
 use crate::questions;
 use profile::ControllerRow;
 use state::Controller;
 
 // Takes up to max packets of a link, oldest first, end to end to the front of out. Question 7: does out hold them all?
-pub fn take_transmit(
+#[no_mangle]
+pub extern "C" fn wegrulsta_take(
     profile: ControllerRow,
     s: Controller,
     pool: &[u8],
@@ -17,9 +19,13 @@ pub fn take_transmit(
     max: usize,
     out: &mut [u8],
 ) -> Took
-    ensures { λ r. ⌜ GivesAnyRows profile (call.takeTransmit handle max) (held s (now (pool .entry))) (held (r .state) (now (pool .entry))) (packets (r .number) (r .written) (r .count) (now (out .entry)) (now (out .exit))) ⌝ }
+    ensures { λ r. ⌜
+        GivesAnyRows profile (call.takeTransmit handle max) (held s (now (pool .entry))) (held (r .state) (now (pool .entry)))
+        (took r (now (out .entry)) (now (out .exit)))
+        ⌝ }
 {
-    let number = questions::about_pool(profile, s, pool.len());
+    let held = state::holds(s, profile);
+    let number = questions::about_pool(profile, held, pool.len());
     if number != 0 {
         return refused(number, s);
     }
@@ -31,7 +37,11 @@ pub fn take_transmit(
     }
     let count = r.count;
     let written = r.len;
-    let links = r.links;
+    let waiting = r.waiting;
+    let mut links = s.links;
+    links.waiting = waiting;
+    links.waiting_count = r.waiting_count;
+    links.in_flight = r.in_flight;
     let mut t = s;
     t.links = links;
     Took {

@@ -88,13 +88,16 @@ module _ (n : ℕ) where
   take-keys (suc k) i (c ∷ cs) e =
       rw (lt-ltb i n (omega arith)) (ap (_∷_ (c .handle)) (take-keys k (suc i) cs (omega arith)))
 
+  -- the first n numbers are the handles, which differ where the numbers do
+  pub handles-first : (cs : List Connection) (l : List ℕ) → l ≡ gathered n cs
+      → distinct itself (take n l) ≡ true → distinct handleOf (take n cs) ≡ true
+  handles-first cs l e differ = keys-map handleOf (take n cs) ∙ rw (← take-keys n 0 cs (omega arith), ← e) differ
+
   -- where each of the first n stands once among all, their handles differ, and back
   pub handles-once : (cs : List Connection) (l : List ℕ) → l ≡ gathered n cs
       → ((i : ℕ) → i < n → timesIn (getD l i 0) l ≡ 1)
       → n ≤ length l → distinct handleOf (take n cs) ≡ true
-  handles-once cs l e once b =
-      keys-map handleOf (take n cs)
-      ∙ rw (← take-keys n 0 cs (omega arith), ← e) (once-first l n once b)
+  handles-once cs l e once b = handles-first cs l e (once-first l n once b)
 
   pub handles-twice : (cs : List Connection) (l : List ℕ) (i : ℕ) → Gathers n cs l → (timesIn (getD l i 0) l ≡ 1 → ⊥)
       → i < length l → distinct handleOf (take n cs) ≡ false

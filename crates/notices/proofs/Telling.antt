@@ -63,6 +63,14 @@ told-cond : {code : ℕ} (b : Bool) {x y : Outcome} → Tells code x → Tells c
 told-cond true h k = h
 told-cond false h k = k
 
+-- no acknowledgement, whatever event is behind it
+pub record Alone (o : Outcome) : Type 0 where
+  pub silent : o .answer ≡ tells (o .answer .then)
+
+alone-cond : (b : Bool) {x y : Outcome} → Alone x → Alone y → Alone (cond b x y)
+alone-cond true h k = h
+alone-cond false h k = k
+
 -- ---- the notices
 
 pub openConnection-silent : (handle interval latency timeout : ℕ) (m : Model) → openConnection handle interval latency timeout m .answer ≡ silent
@@ -75,6 +83,12 @@ unfolding acceptConnection
 acceptConnection-tells handle kind peer interval latency timeout accuracy m six =
     told (connection-one (m .masks) _ _ (omega arith) refl)
 
+-- without an acknowledgement, however many octets the address has
+pub acceptConnection-alone : (handle kind : ℕ) (peer : List ℕ) (interval latency timeout accuracy : ℕ) (m : Model)
+    → Alone (acceptConnection handle kind peer interval latency timeout accuracy m)
+unfolding acceptConnection
+acceptConnection-alone handle kind peer interval latency timeout accuracy m = record { silent = refl }
+
 pub peerUpdate-tells : (handle interval latency timeout : ℕ) (m : Model) → Tells 0x3E (peerUpdate handle interval latency timeout m)
 unfolding peerUpdate
 peerUpdate-tells handle interval latency timeout m =
@@ -85,6 +99,11 @@ pub requestLtk-tells : (handle : ℕ) (random : List ℕ) (diversifier : ℕ) (m
 unfolding requestLtk
 requestLtk-tells handle random diversifier m eight =
     told-cond (has handle (m .links .connections)) (told (le-one (m .masks) 0x05 _ (simp (length-append, eight) (omega arith)))) nothing-told
+
+-- without an acknowledgement, however many octets the random number has
+pub requestLtk-alone : (handle : ℕ) (random : List ℕ) (diversifier : ℕ) (m : Model) → Alone (requestLtk handle random diversifier m)
+unfolding requestLtk
+requestLtk-alone handle random diversifier m = alone-cond (has handle (m .links .connections)) (record { silent = refl }) (record { silent = refl })
 
 pub advertisingTimeout-tells : (m : Model) → Tells 0x3E (advertisingTimeout m)
 unfolding advertisingTimeout

@@ -5,9 +5,11 @@ ghost use mathlib.Core.List.{_++_};
 ghost use Prim.Native.Nat.{_≤_};
 ghost use Rattle.links.specs.Links.{opened, canOpen};
 ghost use Rattle.commands.specs.Outcome.{Answers, GivesAny};
+ghost use Rattle.commands.specs.Put.{putLinks};
 ghost use Rattle.notices.specs.Notices.{tells, openConnection, ConnectionParts, connectionComplete, acceptConnection, advertisingTimeout};
 use answers::Answer;
 use commands::Answered;
+use commands::LinksAnswered;
 use hci::status::ADVERTISING_TIMEOUT;
 use hci::status::SUCCESS;
 use hci::subevent::CONNECTION_COMPLETE;
@@ -23,15 +25,13 @@ pub fn open_connection(
     interval: u16,
     latency: u16,
     timeout: u16,
-) -> Answered
+) -> LinksAnswered
     requires { ⌜ (s .links .count ≤ 16) × (s .links .«waiting_count» ≤ 32) × (canOpen handle (opened (s .links)) ≡ true) ⌝ }
-    ensures { λ r. ⌜ GivesAny (openConnection handle interval latency timeout) s (r .state) (r .answer) ⌝ }
+    ensures { λ r. ⌜ GivesAny (openConnection handle interval latency timeout) s (putLinks (r .links) s) (r .answer) ⌝ }
 {
     let links = links::open_connection(s.links, handle, interval, latency, timeout);
     let answer = answers::silent();
-    let mut t = s;
-    t.links = links;
-    Answered { state: t, answer }
+    LinksAnswered { links, answer }
 }
 
 // The type of a device's address: public is 0, random is 1.

@@ -1,4 +1,4 @@
--- What a packet gives by its first octet, from what `command` and `acl` give: a command, data, or another packet, which does
+-- What a packet gives by its first octet, from what `command` and `data` give: a command, data, or another packet, which does
 -- nothing. For `on_packet`.
 use mathlib.Core.Path.{_≡_, refl, ap}
 use Prim.Native.Nat.{ℕ}

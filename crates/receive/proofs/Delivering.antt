@@ -1,5 +1,5 @@
 -- Which data packets are accepted, and what a packet gives that is queued or dropped, from what `enqueue` and `dropped` give. For
--- `acl`.
+-- `data`.
 use mathlib.Core.Path.{_≡_, refl, sym, ap, _∙_}
 use Prim.Native.Nat.{ℕ, _+_, _≤_, _<_}
 use mathlib.Core.List.{List}
@@ -13,9 +13,10 @@ use Rattle.hci.specs.declared.read.Acl.{Acl}
 use Rattle.hci.specs.declared.read.AclRead.{AclRead}
 use Rattle.hci.specs.declared.read.AclRead.the-variants as acl
 use Rattle.profile.specs.declared.ControllerRow.{ControllerRow}
+use Rattle.links.specs.declared.Waiting.{Waiting}
 use Rattle.links.specs.declared.Links.{Links}
 use Rattle.links.specs.Links as links
-use Rattle.transmit.specs.Transmit.{Queued}
+use Rattle.transmit.specs.Transmit.{withQueued, Queued}
 use Rattle.state.specs.State.{Model, view, countPacket, countDropped}
 use Rattle.state.specs.Holding.{StateHolds, placeSize}
 use Rattle.state.specs.declared.Counters.{Counters}
@@ -26,7 +27,8 @@ use Rattle.commands.proofs.Giving.{holds-links, holds-counters}
 use Rattle.calls.specs.Packets.{accepts, headerOf, stored, queued, discarded, dataPacket}
 use Rattle.calls.specs.Calls.{held}
 use Rattle.calls.specs.Gives.{PoolAfter, Stored}
-use Rattle.receive.specs.Receiving.{Delivers}
+use Rattle.receive.specs.Receiving.{Delivers, putDelivered}
+use Rattle.receive.specs.declared.Delivered.{Delivered}
 
 -- the buffers in use, in the code's numbers
 pub in-use : (s : Links) → length (s .waiting) ≡ 32 → s .«waiting_count» ≤ 32
@@ -51,33 +53,36 @@ module _ (k : ControllerRow) {header : AclRead} {it : Acl} (m : Model) (read : h
 
 module _ {k : ControllerRow} {p : List ℕ} {s : Controller} {pool : List ℕ} (together : StateHolds s k) where
   -- a packet that is not accepted is counted
-  pub delivers-dropped : {t : Controller} → accepts k (parseAcl p) (view s (placeSize k) pool) ≡ false
-      → t ≡ putCounters (countDropped (s .counters)) s → Delivers k p (held s pool) (held t pool)
+  pub delivers-dropped : {r : Delivered} → accepts k (parseAcl p) (view s (placeSize k) pool) ≡ false
+      → r ≡ record { counters = countDropped (s .counters); links = s .links }
+      → Delivers k p (held s pool) (held (putDelivered r s) pool)
   unfolding dataPacket
-  delivers-dropped {t} refused e =
+  delivers-dropped {r} refused e =
       let m = view s (placeSize k) pool in
       let same : dataPacket k p m ≡ discarded m = ap (λ (b : Bool). cond b (queued p m) (discarded m)) refused in
+      let t = putDelivered r s in
       let left : PoolAfter (accepts k (parseAcl p) m) k (stored p) (held s pool) (held t pool) = rw refused refl in
       record {
-        viewed = ap (λ (x : Controller). view x (placeSize k) pool) e ∙ sym same;
+        viewed = ap (λ (x : Delivered). view (putDelivered x s) (placeSize k) pool) e ∙ sym same;
         together = rw e (holds-counters together (countDropped (s .counters)));
         pool = left;
       }
 
   -- one that is accepted waits last
-  pub delivers-queued : {it : Acl} {r : Links} {after : List ℕ} {x : Counters} → parseAcl p ≡ acl.Whole it
+  pub delivers-queued : {it : Acl} {r : List Waiting} {after : List ℕ} {x : Counters} → parseAcl p ≡ acl.Whole it
       → accepts k (parseAcl p) (view s (placeSize k) pool) ≡ true
       → Queued (s .links) (placeSize k) (k .«acl_count») (it .handle) (take (it .len + 5) p) pool r after
-      → x ≡ countPacket (s .counters) → Delivers k p (held s pool) (held (putCounters x (putLinks r s)) after)
+      → x ≡ countPacket (s .counters)
+      → Delivers k p (held s pool) (held (putCounters x (putLinks (withQueued r (s .links)) s)) after)
   unfolding dataPacket
   delivers-queued {it} {r} {after} {x} read taken q e =
       let m = view s (placeSize k) pool in
       let n : it .len + 5 ≡ 5 + it .len = omega arith in
       let octets : take (it .len + 5) p ≡ stored p = rw (read, n) in
       let new = links.enqueued (headerOf (parseAcl p) .handle) (stored p) (m .links) in
-      let waits : links.view r (placeSize k) after ≡ new = q .viewed ∙ rw (read, n) in
+      let waits : links.view (withQueued r (s .links)) (placeSize k) after ≡ new = q .viewed ∙ rw (read, n) in
       let same : dataPacket k p m ≡ queued p m = ap (λ (b : Bool). cond b (queued p m) (discarded m)) taken in
-      let place : Stored k (stored p) (held s pool) (held (putCounters x (putLinks r s)) after) =
+      let place : Stored k (stored p) (held s pool) (held (putCounters x (putLinks (withQueued r (s .links)) s)) after) =
       record { place = q .place; within = q .within; free = q .free; stored = rw octets at (q .stored) } in
       record {
         viewed =

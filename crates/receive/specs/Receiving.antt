@@ -16,12 +16,14 @@ use Rattle.state.specs.State.{Model, view}
 use Rattle.state.specs.Holding.{StateHolds, placeSize}
 use Rattle.state.specs.declared.Controller.{Controller}
 use Rattle.commands.specs.Outcome.{Ready}
+use Rattle.commands.specs.Put.{putLinks, putCounters}
 use Rattle.command.specs.declared.course.Course.{Course}
 use Rattle.command.specs.declared.course.Course.the-variants as course
 use Rattle.command.specs.Calling.{Courses}
 use Rattle.calls.specs.Packets.{Profile, reply, accepts, stored, dataPacket, byCommand}
 use Rattle.calls.specs.Calls.{Held}
 use Rattle.calls.specs.Gives.{PoolAfter}
+use Rattle.receive.specs.declared.Delivered.{Delivered}
 use Rattle.receive.specs.declared.Task.{Task}
 use Rattle.receive.specs.declared.Task.the-variants as task
 
@@ -67,6 +69,10 @@ CommandTask opcodes answers family op n (task.Carried o part) = (o ≡ op) × Co
 pub record CanStore (s : Controller) (profile : ControllerRow) (pool : List ℕ) : Type 0 where
   pub ready : Ready s profile
   pub places : profile .«acl_count» * placeSize profile ≤ length pool
+
+-- the state with what a data packet changed
+abbrev pub putDelivered : Delivered → Controller → Controller
+putDelivered r s = putCounters (r .counters) (putLinks (r .links) s)
 
 -- a data packet p was queued or dropped
 pub record Delivers (k : ControllerRow) (p : List ℕ) (s t : Held) : Type 0 where

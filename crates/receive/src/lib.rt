@@ -1,14 +1,14 @@
 // A packet from the host, by its first octet: what it asks for, a command's parameters, and data, which is queued for its link or
 // dropped (`on_packet` and `acl` of the source). For the controller's `on_packet`, which asks its questions first and has commands
-// carried out. Contracts cite `specs/Receiving.antt`.
+// carried out. Data gives the parts of the state that it changes, and the state is put together where the call returns: were the
+// whole state to go through, it would be copied more often (docs/SPEED.md). Contracts cite `specs/Receiving.antt`.
 ghost use mathlib.Core.Path.{_≡_};
 ghost use mathlib.Core.Bool.{true};
 ghost use Rattle.hci.specs.Read.{parseCommand};
 ghost use Rattle.profile.specs.Profile.{answersFit};
 ghost use Rattle.calls.specs.Calls.{held};
-ghost use Rattle.commands.specs.Put.{putCounters};
 ghost use Rattle.state.specs.State.{countDropped};
-ghost use Rattle.receive.specs.Receiving.{CanStore, Delivers, parametersOf, Tasks, CommandTask};
+ghost use Rattle.receive.specs.Receiving.{CanStore, Delivers, putDelivered, parametersOf, Tasks, CommandTask};
 use command::Course;
 use command::Reason;
 use command::Told;
@@ -19,8 +19,10 @@ use hci::Acl;
 use hci::AclRead;
 use hci::Command;
 use hci::CommandRead;
+use links::Links;
 use profile::ControllerRow;
 use state::Controller;
+use state::Counters;
 
 // What a packet asks for. A command comes with its opcode.
 pub enum Task {
@@ -82,61 +84,78 @@ pub fn parameters(packet: &[u8]) -> &[u8]
     }
 }
 
+// What a data packet changes.
+pub struct Delivered {
+    pub counters: Counters,
+    pub links: Links,
+}
+
+impl Delivered {
+    // What is told after a data packet, which writes no event, from the state before it.
+    pub fn told(self, s: Controller) -> Told
+        ensures { λ r. ⌜ (r .number ≡ 0) × (r .written ≡ 0) × (r .state ≡ putDelivered self s) ⌝ }
+    {
+        let mut t = s;
+        let counters = self.counters;
+        t.counters = counters;
+        let links = self.links;
+        t.links = links;
+        Told {
+            number: 0,
+            state: t,
+            written: 0,
+        }
+    }
+}
+
 // One data packet more was dropped.
-fn dropped(s: Controller) -> Controller
-    ensures { λ r. ⌜ r ≡ putCounters (countDropped (s .counters)) s ⌝ }
+fn dropped(s: Controller) -> Delivered
+    ensures { λ r. ⌜ r ≡ record { counters = countDropped (s .counters); links = s .links } ⌝ }
 {
-    let mut t = s;
+    let links = s.links;
     let counters = s.counters;
     let more = counters.count_dropped();
-    t.counters = more;
-    t
+    Delivered {
+        counters: more,
+        links,
+    }
 }
 
 // A data packet (Core Vol 4 Part E section 4.1.1). A host that overruns the buffers gets its packet discarded, not a buffer that
 // the device does not have: packets that wait and those in flight, of any link, each hold one.
-fn acl(s: Controller, profile: ControllerRow, pool: &mut [u8], packet: &[u8]) -> Controller
+pub fn data(s: Controller, profile: ControllerRow, pool: &mut [u8], packet: &[u8]) -> Delivered
     requires { ⌜ CanStore s profile (now pool) ⌝ }
-    ensures { λ r. ⌜ Delivers profile (now (packet .entry)) (held s (now (pool .entry))) (held r (now (pool .exit))) ⌝ }
+    ensures { λ r. ⌜ Delivers profile (now (packet .entry)) (held s (now (pool .entry))) (held (putDelivered r s) (now (pool .exit))) ⌝ }
 {
+    let counters = s.counters;
+    let links = s.links;
     let read = Acl::parse(packet);
     match read {
         AclRead::Whole(header) => {
-            if !links::has(s.links, header.handle) {
+            if !links::has(links, header.handle) {
                 return dropped(s);
             }
             if header.len > profile.acl_len {
                 return dropped(s);
             }
             let places = profile.acl_count as usize;
-            if links::buffers_in_use(s.links) >= places {
+            if links::buffers_in_use(links) >= places {
                 return dropped(s);
             }
             let size = (profile.acl_len as usize) + 5;
             let n = (header.len as usize) + 5;
-            let links = transmit::enqueue(s.links, pool, size, places, header.handle, packet, n);
-            let counters = s.counters;
+            let waiting = transmit::enqueue(links, pool, size, places, header.handle, packet, n);
+            let mut after = links;
+            after.waiting = waiting;
+            after.waiting_count = links.waiting_count + 1;
             let more = counters.count_packet();
-            let mut t = s;
-            t.links = links;
-            t.counters = more;
-            t
+            Delivered {
+                counters: more,
+                links: after,
+            }
         }
         AclRead::ShortHeader => dropped(s),
         AclRead::NotAcl => dropped(s),
         AclRead::ShortData => dropped(s),
-    }
-}
-
-// A data packet, which writes no event.
-pub fn data(s: Controller, profile: ControllerRow, pool: &mut [u8], packet: &[u8]) -> Told
-    requires { ⌜ CanStore s profile (now pool) ⌝ }
-    ensures { λ r. ⌜ (r .number ≡ 0) × (r .written ≡ 0) × Delivers profile (now (packet .entry)) (held s (now (pool .entry))) (held (r .state) (now (pool .exit))) ⌝ }
-{
-    let t = acl(s, profile, pool, packet);
-    Told {
-        number: 0,
-        state: t,
-        written: 0,
     }
 }

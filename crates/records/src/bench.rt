@@ -103,7 +103,7 @@ fn make_packet(s: Controller, pool: &mut [u8], packet: &[u8], out: &mut [u8], at
         &rows::BITS,
         s,
         pool,
-        [0; 6],
+        &[0; 6],
         0,
         packet,
         &mut events,

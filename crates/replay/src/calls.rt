@@ -191,6 +191,7 @@ fn packet(
     let opcodes = rows.opcodes;
     let answers = rows.answers;
     let bits = rows.bits;
+    let address = setup::address_of(setup);
     told(controller::on_packet(
         setup::profile_of(setup),
         setup::numbers(&opcodes, n),
@@ -198,7 +199,7 @@ fn packet(
         setup::numbers(&bits, n),
         s,
         pool,
-        setup::address_of(setup),
+        &address,
         setup::random_of(setup),
         p,
         slices::first_of(buffer, room),
@@ -289,7 +290,7 @@ fn drop_in_flight(profile: ControllerRow, s: Controller, p: &[u8]) -> Told {
 
 fn accept_connection(profile: ControllerRow, s: Controller, p: &[u8], events: &mut [u8]) -> Told {
     let handle = word_at(p, 0);
-    let random = octet_at(p, 2) != 0;
+    let peer_type = octet_at(p, 2);
     let peer = setup::six_at(p, 3);
     let interval = word_at(p, 9);
     let latency = word_at(p, 11);
@@ -298,8 +299,8 @@ fn accept_connection(profile: ControllerRow, s: Controller, p: &[u8], events: &m
         profile,
         s,
         handle,
-        random,
-        peer,
+        peer_type,
+        &peer,
         interval,
         latency,
         timeout,
@@ -320,7 +321,7 @@ fn request_ltk(profile: ControllerRow, s: Controller, p: &[u8], events: &mut [u8
     let handle = word_at(p, 0);
     let random = setup::eight_at(p, 2);
     let diversifier = word_at(p, 10);
-    controller::request_ltk(profile, s, handle, random, diversifier, events)
+    controller::request_ltk(profile, s, handle, &random, diversifier, events)
 }
 
 // A call that has no buffer tells the host nothing.

@@ -15,9 +15,8 @@ use Rattle.lists.specs.Lists.{keep, taken}
 use Rattle.lists.proofs.Copying.{take-push}
 use Rattle.lists.proofs.Taking.{Taking, taken-more, taken-same, Leaving, leaving-take, leaving-keep, leaving-end}
 use Rattle.links.specs.declared.Waiting.{Waiting}
-use Rattle.links.specs.declared.Links.{Links}
 use Rattle.links.specs.Links.{waitsFor}
-use Rattle.transmit.specs.Steps.{lengths, withQueue, Chose, InFlight}
+use Rattle.transmit.specs.Steps.{lengths, Chose, Leaves}
 
 pub lengths-append : (l m : List Waiting) → lengths (l ++ m) ≡ lengths l + lengths m
 unfolding lengths
@@ -145,14 +144,11 @@ module _ {waiting : List Waiting} {n handle most : ℕ} {left : List Waiting} {k
           rest = leaving-keep (waitsFor handle) waiting n left most k t i d (c .rest) passed (omega (arith, c .parted, c .waited, c .room)) more (c .waited);
         }
 
-pub remove-end : (s : Links) {handle most : ℕ} {left : List Waiting} {k t i : ℕ}
-    → Removing (s .waiting) (s .«waiting_count») handle most left k t i → s .«waiting_count» ≤ i
-    → InFlight s handle most (withQueue s left k (s .«in_flight» + t))
-remove-end s {handle} {most} {left} {k} {t} {i} c done =
-    let e : i ≡ s .«waiting_count» = omega (arith, c .within) in
+pub remove-end : {waiting : List Waiting} {n handle most : ℕ} {left : List Waiting} {k t i : ℕ}
+    → Removing waiting n handle most left k t i → n ≤ i → Leaves waiting n handle most left k
+remove-end {waiting} {n} {handle} {most} {left} {k} {t} {i} c done =
+    let e : i ≡ n = omega (arith, c .within) in
     record {
-      queue = leaving-end (waitsFor handle) (s .waiting) (s .«waiting_count») left most k t i (c .rest) e;
+      queue = leaving-end (waitsFor handle) waiting n left most k t i (c .rest) e;
       counted = length-take-le k left (omega (arith, c .parted, c .waited, c .room));
-      kept = omega (arith, c .parted);
-      same = refl;
     }

@@ -19,7 +19,7 @@ use Rattle.links.specs.declared.Waiting.{Waiting}
 use Rattle.links.specs.declared.Links.{Links}
 use Rattle.links.specs.Links.{Packet, opened, waitingOf, packetOf, view, enqueued}
 use Rattle.links.specs.Holding.{LinksHold, placeOf, fitsIn, waitsInLink}
-use Rattle.transmit.specs.Transmit.{CanQueue, Queued}
+use Rattle.transmit.specs.Transmit.{CanQueue, withQueued, Queued}
 use Rattle.transmit.specs.Steps.{pushed, FreePlace}
 use Rattle.transmit.proofs.Fitting.{all-push, place-room, fitting, fitting-test}
 
@@ -64,20 +64,22 @@ module _ {s : Links} {size places handle n place : ℕ} {pool packet : List ℕ}
 
     module _ (many : length (s .waiting) ≡ 32) where
       -- the packet waits last
-      last : waitingOf (pushed s (record { handle = handle; len = n; place = place })) ≡ waitingOf s ++ (record { handle = handle; len = n; place = place } ∷ [])
+      last : waitingOf (withQueued (pushed s (record { handle = handle; len = n; place = place })) s)
+          ≡ waitingOf s ++ (record { handle = handle; len = n; place = place } ∷ [])
       last = take-push (s .waiting) (s .«waiting_count») (record { handle = handle; len = n; place = place }) (omega (arith, can .free, can .fits .most))
 
-      pub queued-view : view (pushed s (record { handle = handle; len = n; place = place })) size (splice pool (place * size) (take n packet))
+      pub queued-view : view (withQueued (pushed s (record { handle = handle; len = n; place = place })) s) size
+          (splice pool (place * size) (take n packet))
           ≡ enqueued handle (take n packet) (view s size pool)
       unfolding enqueued
       queued-view =
           let g : Waiting → Packet = packetOf size (splice pool (place * size) (take n packet)) in
-          let q : map g (waitingOf (pushed s (record { handle = handle; len = n; place = place })))
+          let q : map g (waitingOf (withQueued (pushed s (record { handle = handle; len = n; place = place })) s))
           ≡ map (packetOf size pool) (waitingOf s) ++ (record { handle = handle; octets = take n packet } ∷ []) =
           rw (last, map-append, others, read-stored size pool packet place n (can .given) queue-room) in
           λ i. record { connections = opened s; queue = q i; inFlight = s .«in_flight» }
 
-      pub queued-holds : LinksHold (pushed s (record { handle = handle; len = n; place = place })) places size
+      pub queued-holds : LinksHold (withQueued (pushed s (record { handle = handle; len = n; place = place })) s) places size
       queued-holds =
           let w : Waiting = record { handle = handle; len = n; place = place } in
           let held = can .fits .held in

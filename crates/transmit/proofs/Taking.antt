@@ -16,8 +16,8 @@ use Rattle.links.specs.declared.Waiting.{Waiting}
 use Rattle.links.specs.declared.Links.{Links}
 use Rattle.links.specs.Links.{Packet, opened, waitingOf, packetOf, view, waitsFor, packetFor, takenFrom, afterTaking}
 use Rattle.links.specs.Holding.{LinksHold}
-use Rattle.transmit.specs.Transmit.{PoolFits, takenOctets, Takes}
-use Rattle.transmit.specs.Steps.{endToEnd, liesIn, Chose, CanCopy, InFlight}
+use Rattle.transmit.specs.Transmit.{PoolFits, withPackets, takenOctets, Takes}
+use Rattle.transmit.specs.Steps.{endToEnd, liesIn, Chose, CanCopy, Leaves}
 use Rattle.transmit.proofs.Fitting.{all-lie}
 use Rattle.transmit.proofs.Octets.{length-end-to-end}
 
@@ -65,7 +65,14 @@ module _ {s : Links} {size places handle most : ℕ} {pool : List ℕ} (fits : P
 
     -- where the buffer has no room nothing changes
     pub take-refused : (out : List ℕ) → length out < len
-        → Takes s size places handle most pool out (record { links = s; fits = false; count = 0; len = 0 }) out
+        → Takes s size places handle most pool out (record {
+          waiting = s .waiting;
+          «waiting_count» = s .«waiting_count»;
+          «in_flight» = s .«in_flight»;
+          fits = false;
+          count = 0;
+          len = 0;
+        }) out
     take-refused out short = record {
       asked = sym (rw taken-length (lt-leb len (length out) short));
       viewed = λ e. absurd (true≢false (sym e));
@@ -76,40 +83,41 @@ module _ {s : Links} {size places handle most : ℕ} {pool : List ℕ} (fits : P
       refused = λ e. (refl, refl, refl, refl);
     }
 
-    module _ (r : Links) (flown : InFlight s handle most r) where
-      opened-same : opened r ≡ opened s
-      opened-same = ap opened (flown .same)
-
-      -- what was waiting and is taken is in flight
-      in-flight-more : r .«in_flight» ≡ s .«in_flight» + length (takenFrom handle most (view s size pool))
-      in-flight-more =
+    -- the others wait on, and the chosen ones are in flight
+    module _ {left : List Waiting} {k : ℕ} (leaves : Leaves (s .waiting) (s .«waiting_count») handle most left k) where
+      none-lost : k + count ≡ s .«waiting_count»
+      none-lost =
           let gone = taken-leaving (waitsFor handle) most (waitingOf s) in
-          omega (arith, chosen-count, c .waited, c .counted, ap length (c .first), flown .counted, ap length (flown .queue), flown .kept)
+          omega (arith, c .waited, c .counted, ap length (c .first), leaves .counted, ap length (leaves .queue))
 
-      pub taken-holds : LinksHold r places size
+      pub taken-holds : LinksHold (withPackets left k (s .«in_flight» + count) s) places size
       taken-holds =
           let held = fits .held in
           let fewer = leaving-fewer (waitsFor handle) most (waitingOf s) in
           record {
-            fewLinks = omega (arith, held .fewLinks, ap (λ (t : Links). t .count) (flown .same));
-            fewWaiting = omega (arith, held .room, fits .most, flown .kept);
-            room = omega (arith, held .room, flown .kept);
-            handles = rw opened-same (held .handles);
-            owners = rw (flown .queue) (distinct-fewer _ fewer (held .owners));
-            fit = rw (flown .queue) (all-fewer _ fewer (held .fit));
-            linked = rw (flown .queue, opened-same) (all-fewer _ fewer (held .linked));
+            fewLinks = held .fewLinks;
+            fewWaiting = omega (arith, held .fewWaiting, none-lost);
+            room = omega (arith, held .room, none-lost);
+            handles = held .handles;
+            owners = rw (leaves .queue) (distinct-fewer _ fewer (held .owners));
+            fit = rw (leaves .queue) (all-fewer _ fewer (held .fit));
+            linked = rw (leaves .queue) (all-fewer _ fewer (held .linked));
           }
 
-      pub taken-after : view r size pool ≡ afterTaking handle most (view s size pool)
+      pub taken-after : view (withPackets left k (s .«in_flight» + count) s) size pool
+          ≡ afterTaking handle most (view s size pool)
       unfolding afterTaking
       taken-after =
-          let q : map (packetOf size pool) (waitingOf r) ≡ leaving (packetFor handle) most (map (packetOf size pool) (waitingOf s)) =
-          rw (flown .queue) (sym (leaving-map (packetOf size pool) (waitsFor handle) (packetFor handle) (λ w. refl) most (waitingOf s))) in
-          λ i. record { connections = opened-same i; queue = q i; inFlight = in-flight-more i }
+          let q : map (packetOf size pool) (take k left) ≡ leaving (packetFor handle) most (map (packetOf size pool) (waitingOf s)) =
+          rw (leaves .queue) (sym (leaving-map (packetOf size pool) (waitsFor handle) (packetFor handle) (λ w. refl) most (waitingOf s))) in
+          λ i. record { connections = opened s; queue = q i; inFlight = s .«in_flight» + chosen-count i }
 
       -- what `take` promises where the buffer has room
-      pub take-done : {out : List ℕ} {k : ℕ} {after : List ℕ} → len ≤ length out → Put out 0 (endToEnd size pool (take count packets)) k after
-          → Takes s size places handle most pool out (record { links = r; fits = true; count = count; len = len }) after
+      pub take-done : {out : List ℕ} {n : ℕ} {after : List ℕ} → len ≤ length out
+          → Put out 0 (endToEnd size pool (take count packets)) n after
+          → Takes s size places handle most pool out
+          (record { waiting = left; «waiting_count» = k; «in_flight» = s .«in_flight» + count; fits = true; count = count; len = len })
+          after
       take-done {out} room p = record {
         asked = sym (rw taken-length (le-leb len (length out) room));
         viewed = λ e. taken-after;

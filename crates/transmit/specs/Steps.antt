@@ -7,20 +7,12 @@ use mathlib.Core.Bool.{Bool, true, false, cond}
 use lib.Dec.{eqb, leb, ltb}
 use lib.ListN.{length, take, getD, set}
 use Rattle.lists.specs.Lists.{any, all, keyed, taken, leaving, readAt}
-use Rattle.links.specs.Links.{waitsFor, waitingOf}
+use Rattle.links.specs.Links.{waitsFor}
 use Rattle.links.specs.Holding.{placeOf}
 use Rattle.links.specs.declared.Waiting.{Waiting}
 use Rattle.links.specs.declared.Links.{Links}
 
--- The links with another queue and another number in flight, and with one packet more
-
-abbrev pub withQueue : Links → List Waiting → ℕ → ℕ → Links
-withQueue s l n inFlight = record { connections = s .connections; count = s .count; waiting = l; «waiting_count» = n; «in_flight» = inFlight }
-
-abbrev pub pushed : Links → Waiting → Links
-pushed s w = withQueue s (set (s .waiting) (s .«waiting_count») w) (s .«waiting_count» + 1) (s .«in_flight»)
-
--- Queueing: the places that are owned
+-- Queueing: the places that are owned, and the packets with one more
 
 -- the place is one of the first `most`
 abbrev pub placeBelow : ℕ → Waiting → Bool
@@ -44,6 +36,10 @@ isFree mark = eqb mark 0
 pub record FreePlace (l : List Waiting) (n place : ℕ) : Type 0 where
   pub low : place ≤ n
   pub free : any (keyed placeOf place) l ≡ false
+
+-- the waiting packets with one more, which is the last
+abbrev pub pushed : Links → Waiting → List Waiting
+pushed s w = set (s .waiting) (s .«waiting_count») w
 
 -- Taking: the packets to be taken, their octets and what is left
 
@@ -74,9 +70,7 @@ pub record CanCopy (l : List Waiting) (n size : ℕ) (pool out : List ℕ) : Typ
   pub within : all (liesIn size pool) l ≡ true
   pub room : length (endToEnd size pool l) ≤ length out
 
--- no packet is lost: those that wait no longer are in flight
-pub record InFlight (s : Links) (handle most : ℕ) (r : Links) : Type 0 where
-  pub queue : waitingOf r ≡ leaving (waitsFor handle) most (waitingOf s)
-  pub counted : length (waitingOf r) ≡ r .«waiting_count»
-  pub kept : r .«waiting_count» + r .«in_flight» ≡ s .«waiting_count» + s .«in_flight»
-  pub same : r ≡ withQueue s (r .waiting) (r .«waiting_count») (r .«in_flight»)
+-- the packets that wait on, of the first n that wait, stand at the front of `left`
+pub record Leaves (waiting : List Waiting) (n handle most : ℕ) (left : List Waiting) (count : ℕ) : Type 0 where
+  pub queue : take count left ≡ leaving (waitsFor handle) most (take n waiting)
+  pub counted : length (take count left) ≡ count

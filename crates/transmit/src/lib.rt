@@ -1,6 +1,7 @@
 // Packets in the pool: queueing one for a link, and taking a link's packets for the air. The pool is lent by the caller:
-// `places` places of `size` octets each. For the controller's `acl` and `take_transmit`. Contracts cite
-// `specs/Transmit.antt`, those of the steps `specs/Steps.antt`.
+// `places` places of `size` octets each. For data packets and `take_transmit` of the controller. Both give the waiting packets and
+// no more of the links, which the caller puts together: were all of them to go through, they would be copied more often
+// (docs/SPEED.md). Contracts cite `specs/Transmit.antt`, those of the steps `specs/Steps.antt`.
 ghost use mathlib.Core.Path.{_≡_};
 ghost use mathlib.Core.Bool.{_&&_};
 ghost use Prim.Native.Nat.{_+_, _*_, _≤_};
@@ -9,7 +10,7 @@ ghost use lib.ListN.{length, take};
 ghost use Rattle.lists.specs.Lists.{firstAt, readAt};
 ghost use Rattle.octets.specs.Octets.{Put};
 ghost use Rattle.transmit.specs.Transmit.{CanQueue, Queued, PoolFits, Takes};
-ghost use Rattle.transmit.specs.Steps.{CanMark, Marks, isFree, FreePlace, Chose, CanCopy, endToEnd, InFlight};
+ghost use Rattle.transmit.specs.Steps.{CanMark, Marks, isFree, FreePlace, Chose, CanCopy, endToEnd, Leaves};
 use links::Links;
 use links::Waiting;
 
@@ -53,7 +54,7 @@ fn free_place(waiting: [Waiting; 32], n: usize) -> usize
     lowest_free(&marks, n)
 }
 
-// The links with one packet more: the first n octets of packet, copied to a place that no waiting packet owns.
+// The waiting packets with one more, the first n octets of packet, copied to a place that no waiting packet owns.
 pub fn enqueue(
     links: Links,
     pool: &mut [u8],
@@ -62,29 +63,30 @@ pub fn enqueue(
     handle: u16,
     packet: &[u8],
     n: usize,
-) -> Links
+) -> [Waiting; 32]
     requires { ⌜ CanQueue links size places handle n (now pool) (now packet) ⌝ }
     ensures { λ r. ⌜ Queued links size places handle (take n (now (packet .entry))) (now (pool .entry)) r (now (pool .exit)) ⌝ }
 {
-    let waiting = links.waiting;
+    let mut waiting = links.waiting;
     let count = links.waiting_count;
     let place = free_place(waiting, count);
     octets::put(pool, place * size, &packet[..n]);
     let len = n as u16;
     let own = place as u8;
-    let mut out = links;
-    out.waiting[count] = Waiting {
+    waiting[count] = Waiting {
         handle: handle,
         len: len,
         place: own,
     };
-    out.waiting_count = count + 1;
-    out
+    waiting
 }
 
-// What taking gives: the links, how many packets and octets were written, or that the buffer can't hold them.
+// What taking gives: the packets that wait on, how many they are and how many are in flight; and how many packets and octets
+// were written, or that the buffer can't hold them.
 pub struct Taken {
-    pub links: Links,
+    pub waiting: [Waiting; 32],
+    pub waiting_count: usize,
+    pub in_flight: u16,
     pub fits: bool,
     pub count: usize,
     pub len: usize,
@@ -158,13 +160,17 @@ fn copy(packets: [Waiting; 32], n: usize, pool: &[u8], size: usize, out: &mut [u
     at
 }
 
-// The links with the first packets of a link, up to max, in flight and no longer waiting.
-fn put_in_flight(links: Links, handle: u16, max: usize) -> Links
-    requires { ⌜ links .«waiting_count» + links .«in_flight» ≤ 32 ⌝ }
-    ensures { λ r. ⌜ InFlight links handle max r ⌝ }
+// The packets that wait on, at the front of `waiting`, and how many they are.
+struct Left {
+    waiting: [Waiting; 32],
+    count: usize,
+}
+
+// Of the first n that wait, all but the first packets of a link, up to max.
+fn packets_left(waiting: [Waiting; 32], n: usize, handle: u16, max: usize) -> Left
+    requires { ⌜ n ≤ 32 ⌝ }
+    ensures { λ r. ⌜ Leaves waiting n handle max (r .waiting) (r .count) ⌝ }
 {
-    let waiting = links.waiting;
-    let n = links.waiting_count;
     let mut left = waiting;
     let mut k: usize = 0;
     let mut taken: usize = 0;
@@ -179,11 +185,10 @@ fn put_in_flight(links: Links, handle: u16, max: usize) -> Links
         }
         i += 1;
     }
-    let mut out = links;
-    out.waiting = left;
-    out.waiting_count = k;
-    out.in_flight = links.in_flight + (taken as u16);
-    out
+    Left {
+        waiting: left,
+        count: k,
+    }
 }
 
 // Takes up to max packets of a link, oldest first, copied end to end to the front of out. Where out can't hold them all
@@ -203,23 +208,27 @@ pub fn take(
     let waiting = links.waiting;
     let n = links.waiting_count;
     let c = choose(waiting, n, handle, max);
-    let len = c.len;
-    let count = c.count;
-    if out.len() < len {
+    if out.len() < c.len {
         return Taken {
-            links: links,
+            waiting: waiting,
+            waiting_count: n,
+            in_flight: links.in_flight,
             fits: false,
             count: 0,
             len: 0,
         };
     }
     let packets = c.packets;
-    copy(packets, count, pool, size, out);
-    let after = put_in_flight(links, handle, max);
+    copy(packets, c.count, pool, size, out);
+    let left = packets_left(waiting, n, handle, max);
+    let wait_on = left.waiting;
+    let in_flight = links.in_flight + (c.count as u16);
     Taken {
-        links: after,
+        waiting: wait_on,
+        waiting_count: left.count,
+        in_flight: in_flight,
         fits: true,
-        count: count,
-        len: len,
+        count: c.count,
+        len: c.len,
     }
 }

@@ -34,9 +34,9 @@ laid_out!(Profile, 120, 8, hci_version 0, hci_subversion 2, lmp_version 4, compa
     supported_commands 10, lmp_features 74, le_features 88, supported_states 96, acl_len 104, acl_count 106,
     accept_list_size 107, resolving_list_size 108, adv_tx_power 109, tx_power_min 110, tx_power_max 111,
     max_tx_octets 112, max_tx_time 114, max_adv_data_len 116, adv_sets 118, num_command_packets 119);
-laid_out!(Told, 1168, 8, number 0, state 8, written 1160);
-laid_out!(Changed, 1160, 8, number 0, state 8);
-laid_out!(Took, 1176, 8, number 0, state 8, count 1160, written 1168);
+laid_out!(Told, 1168, 8, state 0, written 1152, number 1160);
+laid_out!(Changed, 1160, 8, state 0, number 1152);
+laid_out!(Took, 1176, 8, state 0, count 1152, written 1160, number 1168);
 laid_out!(Connected, 2, 1, number 0, connected 1);
 laid_out!(Terminating, 2, 1, number 0, reason 1);
 laid_out!(FreeHandle, 4, 2, number 0, handle 2);

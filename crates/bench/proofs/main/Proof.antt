@@ -14,8 +14,8 @@ slice-aggregate-write-all c = search needs
 write-all-requires : tie.Need-write-all-requires
 write-all-requires c κs = search needs
 
-default-state-requires : tie.Need-default-state-requires
-default-state-requires c κs = search needs
+wegrulsta-start-requires : tie.Need-wegrulsta-start-requires
+wegrulsta-start-requires c κs = search needs
 
 slice-aggregate-on-input : tie.Need-slice-aggregate-on-input
 slice-aggregate-on-input c = search needs
@@ -27,7 +27,7 @@ slice-aggregate-on-input-3 : tie.Need-slice-aggregate-on-input-3
 slice-aggregate-on-input-3 c = search needs
 
 on-input-requires : tie.Need-on-input-requires
-on-input-requires c κs = (runs-with _ (c .before .before .before .default-state .ensures .together benchController) (lit≤ tt), (refl, lit≤ tt))
+on-input-requires c κs = (runs-with _ (c .before .before .before .wegrulsta-start .ensures .together benchController) (lit≤ tt), (refl, lit≤ tt))
 
 slice-aggregate-on-line : tie.Need-slice-aggregate-on-line
 slice-aggregate-on-line c = search needs
@@ -56,7 +56,7 @@ main-spec =
     (tie.spec
     slice-aggregate-write-all
     write-all-requires
-    default-state-requires
+    wegrulsta-start-requires
     slice-aggregate-on-input
     slice-aggregate-on-input-2
     slice-aggregate-on-input-3

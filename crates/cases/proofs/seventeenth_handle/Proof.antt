@@ -10,8 +10,8 @@ Inv-loop s₀ handle₀ t6 t7 s handle = handle ≤ 17
 abbrev μ-loop : tie.MeasureT-loop
 μ-loop s₀ handle₀ t6 t7 s handle = 17 - handle
 
-default-state-requires : tie.Need-default-state-requires Inv-loop μ-loop
-default-state-requires c κs = search needs
+wegrulsta-start-requires : tie.Need-wegrulsta-start-requires Inv-loop μ-loop
+wegrulsta-start-requires c κs = search needs
 
 loop-holds : tie.Need-loop-holds Inv-loop μ-loop
 loop-holds c = search needs
@@ -19,8 +19,8 @@ loop-holds c = search needs
 bench-requires : tie.Need-bench-requires Inv-loop μ-loop
 bench-requires c κs = search needs
 
-open-connection-requires : tie.Need-open-connection-requires Inv-loop μ-loop
-open-connection-requires c κs = search needs
+wegrulsta-open-requires : tie.Need-wegrulsta-open-requires Inv-loop μ-loop
+wegrulsta-open-requires c κs = search needs
 
 add-handle : tie.Need-add-handle Inv-loop μ-loop
 add-handle c = search needs
@@ -34,8 +34,8 @@ loop-again c = search needs
 bench-requires-2 : tie.Need-bench-requires-2 Inv-loop μ-loop
 bench-requires-2 c κs = search needs
 
-open-connection-requires-2 : tie.Need-open-connection-requires-2 Inv-loop μ-loop
-open-connection-requires-2 c κs = search needs
+wegrulsta-open-requires-2 : tie.Need-wegrulsta-open-requires-2 Inv-loop μ-loop
+wegrulsta-open-requires-2 c κs = search needs
 
 slice-aggregate-line : tie.Need-slice-aggregate-line Inv-loop μ-loop
 slice-aggregate-line c = search needs
@@ -46,8 +46,8 @@ line-requires c κs = search needs
 bench-requires-3 : tie.Need-bench-requires-3 Inv-loop μ-loop
 bench-requires-3 c κs = search needs
 
-open-connection-requires-3 : tie.Need-open-connection-requires-3 Inv-loop μ-loop
-open-connection-requires-3 c κs = search needs
+wegrulsta-open-requires-3 : tie.Need-wegrulsta-open-requires-3 Inv-loop μ-loop
+wegrulsta-open-requires-3 c κs = search needs
 
 slice-aggregate-line-2 : tie.Need-slice-aggregate-line-2 Inv-loop μ-loop
 slice-aggregate-line-2 c = search needs
@@ -64,19 +64,19 @@ seventeenth-handle-spec =
     (tie.spec
     Inv-loop
     μ-loop
-    default-state-requires
+    wegrulsta-start-requires
     loop-holds
     bench-requires
-    open-connection-requires
+    wegrulsta-open-requires
     add-handle
     loop-less
     loop-again
     bench-requires-2
-    open-connection-requires-2
+    wegrulsta-open-requires-2
     slice-aggregate-line
     line-requires
     bench-requires-3
-    open-connection-requires-3
+    wegrulsta-open-requires-3
     slice-aggregate-line-2
     line-requires-2
     returns)

@@ -52,14 +52,11 @@ cast-own c =
     let b = queue-place (s .pre) (f .ensures) in
     omega (arith, s .pre .fits .most)
 
-mul-t14 : tie.Need-mul-t14
-mul-t14 c = search needs
+mul-waiting : tie.Need-mul-waiting
+mul-waiting c = search needs
 
-element-set-from-out : tie.Need-element-set-from-out
-element-set-from-out c = search needs
-
-add-out : tie.Need-add-out
-add-out c = search needs
+array-set-from-waiting : tie.Need-array-set-from-waiting
+array-set-from-waiting c = search needs
 
 same-length : tie.Need-same-length
 same-length c = put-long (c .before .before .put .ensures)
@@ -82,8 +79,7 @@ enqueue-spec =
     put-requires
     cast-len
     cast-own
-    mul-t14
-    element-set-from-out
-    add-out
+    mul-waiting
+    array-set-from-waiting
     same-length
     returns)

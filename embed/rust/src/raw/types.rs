@@ -1,4 +1,4 @@
-//! The structs that cross between Rust and `libcapi.a`, as `wegrulsta.h` has them, and the numbers in them. For `raw.rs`,
+//! The structs that cross between Rust and the archives, as `wegrulsta.h` has them, and the numbers in them. For `raw.rs`,
 //! which hands them on; `layout.rs` asserts how they lie in memory.
 
 /// Which events the host has enabled.
@@ -177,27 +177,27 @@ pub struct Profile {
 #[repr(C)]
 #[derive(Clone, Copy, Debug, PartialEq, Eq)]
 pub struct Told {
-    pub number: u8,
     pub state: State,
     pub written: usize,
+    pub number: u8,
 }
 
 /// What a call gives that has no buffer.
 #[repr(C)]
 #[derive(Clone, Copy, Debug, PartialEq, Eq)]
 pub struct Changed {
-    pub number: u8,
     pub state: State,
+    pub number: u8,
 }
 
 /// What a take gives: also how many packets it took.
 #[repr(C)]
 #[derive(Clone, Copy, Debug, PartialEq, Eq)]
 pub struct Took {
-    pub number: u8,
     pub state: State,
     pub count: usize,
     pub written: usize,
+    pub number: u8,
 }
 
 #[repr(C)]

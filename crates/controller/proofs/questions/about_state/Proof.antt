@@ -1,5 +1,6 @@
 -- `controller::questions::about_state` meets its contract.
 use borrow.Author.Needs.{needs}
+use borrow.Author.Tests.{not-true, not-false}
 use Rattle.state.proofs.Holding.{passed, failed}
 use Rattle.calls.specs.Calls.{firstNo}
 use Rattle.controller.proofs.questions.about_state.Statement.{statement}
@@ -12,25 +13,17 @@ returns : tie.Need-returns
 unfolding firstNo
 returns c = rw (failed (c .before .within-limits .ensures) (c .if1 .taken))
 
-holds-requires : tie.Need-holds-requires
-holds-requires c κs = search needs
-
 returns-2 : tie.Need-returns-2
 unfolding firstNo
 returns-2 c =
-    rw (
-      passed (c .before .before .before .within-limits .ensures) (c .before .before .if1 .left),
-      failed (c .before .holds .ensures) (c .if2 .taken),
-    )
+    let held = c .before .before .before .args .held in
+    rw (passed (c .before .before .within-limits .ensures) (c .before .if1 .left), not-true held (c .if2 .taken))
 
 returns-3 : tie.Need-returns-3
 unfolding firstNo
 returns-3 c =
-    rw (
-      passed (c .before .before .before .within-limits .ensures) (c .before .before .if1 .left),
-      passed (c .before .holds .ensures) (c .if2 .left),
-    )
+    let held = c .before .before .before .args .held in
+    rw (passed (c .before .before .within-limits .ensures) (c .before .if1 .left), not-false held (c .if2 .left))
 
 pub about-state-spec : {M : Type 1} → statement M
-about-state-spec =
-    tie.close (tie.spec within-limits-requires returns holds-requires returns-2 returns-3)
+about-state-spec = tie.close (tie.spec within-limits-requires returns returns-2 returns-3)

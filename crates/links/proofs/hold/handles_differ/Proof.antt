@@ -1,7 +1,8 @@
--- `links::hold::handles_differ` meets its contract: each handle before index i stands once among all sixteen.
+-- `links::hold::handles_differ` meets its contract: the lowest octets differ, or else, in the loop, each handle before index i
+-- stands once among all sixteen.
 use borrow.Author.Count.{below-more}
 use Rattle.links.specs.Gather.{timesIn}
-use Rattle.links.proofs.Gather.{handles-once, handles-twice}
+use Rattle.links.proofs.Gather.{handles-first, handles-once, handles-twice}
 use Prim.Native.Nat.{ℕ, _≤_, _<_, _-_}
 use mathlib.Core.Path.{_≡_, sym, _∙_}
 use lib.ListN.{getD}
@@ -16,6 +17,14 @@ Inv-loop handles n i₀ i = (i ≤ n) × ((k : ℕ) → k < i → timesIn (getD 
 abbrev μ-loop : tie.MeasureT-loop
 μ-loop handles n i₀ i = n - i
 
+lowest-octets-differ-requires : tie.Need-lowest-octets-differ-requires Inv-loop μ-loop
+lowest-octets-differ-requires c κs = search needs
+
+returns : tie.Need-returns Inv-loop μ-loop
+returns c =
+    let s = c .before .before .args in
+    λ cs g. sym (handles-first (s .n) cs (s .handles .now) (g .keys) (c .before .lowest-octets-differ .ensures (c .if1 .taken)))
+
 loop-holds : tie.Need-loop-holds Inv-loop μ-loop
 loop-holds c = (search needs, λ k b. absurd (omega arith))
 
@@ -28,12 +37,12 @@ element-copy-out-x c = search needs
 times-requires : tie.Need-times-requires Inv-loop μ-loop
 times-requires c κs = search needs
 
-returns : tie.Need-returns Inv-loop μ-loop
-returns c =
-    let s = c .before .before .before .before .before .args in
+returns-2 : tie.Need-returns-2 Inv-loop μ-loop
+returns-2 c =
+    let s = c .before .before .before .before .before .before .before .args in
     let l = c .before .before .before .before .loop in
     λ cs g.
-    sym (handles-twice (s .n) cs (s .handles .now) (l .i) g (λ e. c .if1 .taken (c .before .times .ensures ∙ e))
+    sym (handles-twice (s .n) cs (s .handles .now) (l .i) g (λ e. c .if2 .taken (c .before .times .ensures ∙ e))
     (omega arith))
 
 add-i : tie.Need-add-i Inv-loop μ-loop
@@ -45,11 +54,11 @@ loop-less c = search needs
 loop-again : tie.Need-loop-again Inv-loop μ-loop
 loop-again c =
     let l = c .before .before .before .before .loop in
-    (search needs, below-more _ (l .i) (l .inv .1) (sym (c .before .times .ensures) ∙ c .if1 .left))
+    (search needs, below-more _ (l .i) (l .inv .1) (sym (c .before .times .ensures) ∙ c .if2 .left))
 
-returns-2 : tie.Need-returns-2 Inv-loop μ-loop
-returns-2 c =
-    let s = c .before .before .args in
+returns-3 : tie.Need-returns-3 Inv-loop μ-loop
+returns-3 c =
+    let s = c .before .before .before .before .args in
     let l = c .before .loop in
     λ cs g. sym (handles-once (s .n) cs (s .handles .now) (g .keys) (λ i b. l .inv .1 i (omega arith)) (omega arith))
 
@@ -59,12 +68,14 @@ handles-differ-spec =
     (tie.spec
     Inv-loop
     μ-loop
+    lowest-octets-differ-requires
+    returns
     loop-holds
     mul-x
     element-copy-out-x
     times-requires
-    returns
+    returns-2
     add-i
     loop-less
     loop-again
-    returns-2)
+    returns-3)

@@ -18,7 +18,8 @@ returns : tie.Need-returns
 unfolding peerUpdate
 returns c k held =
     let s = c .before in
-    gives-answer (s .before .silent .ensures) (λ size pool. rw (← s .has .ensures, not-true (s .has .result) (c .if1 .taken))) held
+    gives-answer (s .before .before .silent .ensures)
+    (λ size pool. rw (← s .has .ensures, not-true (s .has .result) (c .if1 .taken))) held
 
 set-parameters-requires : tie.Need-set-parameters-requires
 set-parameters-requires c κs = search needs
@@ -57,10 +58,10 @@ returns-2 : tie.Need-returns-2
 unfolding peerUpdate
 returns-2 c k held =
     let s = c .before .before .before .before in
-    let args = s .before .before .args in
+    let args = s .before .before .before .args in
     gives-changed (args .handle) (withParameters (args .interval) (args .latency) (args .timeout)) (λ x. refl)
     (c .before .before .set-parameters .ensures)
-    (answered-then (c .followed-by-le .ensures) (s .before .silent .ensures) refl)
+    (answered-then (c .followed-by-le .ensures) (s .before .before .silent .ensures) refl)
     (λ size pool. rw (← s .has .ensures, not-false (s .has .result) (c .before .before .before .if1 .left))) held
 
 pub peer-update-spec : {M : Type 1} → statement M

@@ -23,7 +23,8 @@ returns : tie.Need-returns
 unfolding requestLtk
 returns c k held =
     let s = c .before in
-    gives-answer (s .before .silent .ensures) (λ size pool. rw (← s .has .ensures, not-true (s .has .result) (c .if1 .taken))) held
+    gives-answer (s .before .before .silent .ensures)
+    (λ size pool. rw (← s .has .ensures, not-true (s .has .result) (c .if1 .taken))) held
 
 set-ltk-requested-requires : tie.Need-set-ltk-requested-requires
 set-ltk-requested-requires c κs = search needs
@@ -74,13 +75,14 @@ returns-2 c k held =
     let v = u .before .before .before .before in
     let w = v .before .before .before .before in
     let s = w .before .before in
-    let start = s .before .before in
+    let start = s .before .before .before in
     let args = start .args in
     let eight : length (args .t3) ≡ 8 = search (needs, start .good .1 .1 .0) in
     let event = leEvent (args .s .masks) 0x05 (le 2 (args .handle) ++ args .t3 ++ le 2 (args .ediv)) in
     gives-changed {expected = tells event} (args .handle) (withLtkRequested 1) (λ x. refl)
     (w .set-ltk-requested .ensures)
-    (answered-then (c .followed-by-le .ensures) (s .before .silent .ensures) (rw (key-request refl eight (v .put-two .ensures) (u .put .ensures))))
+    (answered-then (c .followed-by-le .ensures) (s .before .before .silent .ensures)
+    (rw (key-request refl eight (v .put-two .ensures) (u .put .ensures))))
     (λ size pool. rw (← s .has .ensures, not-false (s .has .result) (w .before .if1 .left))) held
 
 pub request-ltk-spec : {M : Type 1} → statement M

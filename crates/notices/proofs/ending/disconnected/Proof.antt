@@ -18,7 +18,8 @@ has-requires c κs = search needs
 returns : tie.Need-returns
 returns c k held =
     let s = c .before in
-    gives-answer (s .before .silent .ensures) (λ size pool. rw (← s .has .ensures, not-true (s .has .result) (c .if1 .taken))) held
+    gives-answer (s .before .before .silent .ensures)
+    (λ size pool. rw (← s .has .ensures, not-true (s .has .result) (c .if1 .taken))) held
 
 end-connection-requires : tie.Need-end-connection-requires
 end-connection-requires c κs = search needs
@@ -39,10 +40,10 @@ returns-2 : tie.Need-returns-2
 returns-2 c k held =
     let e = c .before .before .before in
     let s = e .before .before in
-    let args = s .before .before .args in
+    let args = s .before .before .before .args in
     gives-links (ended (args .handle)) (e .end-connection .ensures .0)
     (ended-holds (args .s .links) (held .links) (args .handle) (e .end-connection .ensures .1))
-    (answered-then (c .followed-by-event .ensures) (s .before .silent .ensures) refl)
+    (answered-then (c .followed-by-event .ensures) (s .before .before .silent .ensures) refl)
     (λ size pool. rw (← s .has .ensures, not-false (s .has .result) (e .before .if1 .left))) held
 
 pub disconnected-spec : {M : Type 1} → statement M

@@ -16,7 +16,7 @@ silent-requires c κs = search needs
 
 returns : tie.Need-returns
 unfolding completed
-returns c k held = gives-answer (c .before .silent .ensures) (λ size pool. rw (eq-eqb _ _ (c .if1 .taken))) held
+returns c k held = gives-answer (c .before .before .silent .ensures) (λ size pool. rw (eq-eqb _ _ (c .if1 .taken))) held
 
 settle-requires : tie.Need-settle-requires
 settle-requires c κs = search needs
@@ -43,7 +43,7 @@ returns-2 : tie.Need-returns-2
 unfolding completed pairs
 returns-2 c k held =
     let o = c .before .before in
-    let s = o .before .before in
+    let s = o .before .before .before in
     let args = s .before .args in
     gives-links (settled (args .count)) (o .settle .ensures .0)
     (settled-holds (args .s .links) (held .links) (args .count) (o .settle .ensures .1))

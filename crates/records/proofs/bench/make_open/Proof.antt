@@ -9,14 +9,14 @@ use Rattle.records.proofs.bench.make_open.Tie as tie
 bench-profile-requires : tie.Need-bench-profile-requires
 bench-profile-requires c κs = search needs
 
-open-connection-requires : tie.Need-open-connection-requires
-open-connection-requires c κs = search needs
+wegrulsta-open-requires : tie.Need-wegrulsta-open-requires
+wegrulsta-open-requires c κs = search needs
 
 print-done-requires : tie.Need-print-done-requires
 print-done-requires c κs =
     let r = c .before .before in
     let pre = r .before .before .before .pre in
-    let gives = any-rows (r .before .bench-profile .ensures) (r .open-connection .ensures zeros) in
+    let gives = any-rows (r .before .bench-profile .ensures) (r .wegrulsta-open .ensures zeros) in
     let runs = runs-zeros (pre .0) in
     (number-small runs gives refl, (still-together runs gives .links, omega (arith, pre .1)))
 
@@ -27,10 +27,10 @@ returns : tie.Need-returns
 returns c = λ pool room.
     let r = c .before .before .before .before .before in
     let pre = r .before .before .before .pre in
-    let gives = any-rows (r .before .bench-profile .ensures) (r .open-connection .ensures pool) in
+    let gives = any-rows (r .before .bench-profile .ensures) (r .wegrulsta-open .ensures pool) in
     call-prints (runs-with pool (pre .0) room) gives refl room
     (rw (no-packets 69 _ _) (c .before .before .print-done .ensures 32 pool))
 
 pub make-open-spec : {M : Type 1} → statement M
 make-open-spec =
-    tie.close (tie.spec bench-profile-requires open-connection-requires print-done-requires same-length returns)
+    tie.close (tie.spec bench-profile-requires wegrulsta-open-requires print-done-requires same-length returns)

@@ -9,29 +9,29 @@ use Rattle.records.proofs.bench.make_take.Tie as tie
 bench-profile-requires : tie.Need-bench-profile-requires
 bench-profile-requires c κs = search needs
 
-slice-aggregate-take-transmit : tie.Need-slice-aggregate-take-transmit
-slice-aggregate-take-transmit c = search needs
+slice-aggregate-wegrulsta-take : tie.Need-slice-aggregate-wegrulsta-take
+slice-aggregate-wegrulsta-take c = search needs
 
-take-transmit-requires : tie.Need-take-transmit-requires
-take-transmit-requires c κs = search needs
+wegrulsta-take-requires : tie.Need-wegrulsta-take-requires
+wegrulsta-take-requires c κs = search needs
 
 array-share-prefix-taken : tie.Need-array-share-prefix-taken
 array-share-prefix-taken c =
     let r = c .before .before in
     let pre = r .before .before .before .before .before .pre in
-    written-fits (pre .0) (any-rows (r .before .before .bench-profile .ensures) (r .take-transmit .ensures))
+    written-fits (pre .0) (any-rows (r .before .before .bench-profile .ensures) (r .wegrulsta-take .ensures))
 
 slice-aggregate-print-answer : tie.Need-slice-aggregate-print-answer
 slice-aggregate-print-answer c =
     let r = c .before .before .before in
     let pre = r .before .before .before .before .before .pre in
-    sym (written-long (pre .0) (any-rows (r .before .before .bench-profile .ensures) (r .take-transmit .ensures)))
+    sym (written-long (pre .0) (any-rows (r .before .before .bench-profile .ensures) (r .wegrulsta-take .ensures)))
 
 print-answer-requires : tie.Need-print-answer-requires
 print-answer-requires c κs =
     let r = c .before .before .before .before in
     let pre = r .before .before .before .before .before .pre in
-    let gives = any-rows (r .before .before .bench-profile .ensures) (r .take-transmit .ensures) in
+    let gives = any-rows (r .before .before .bench-profile .ensures) (r .wegrulsta-take .ensures) in
     (omega (arith, written-long (pre .0) gives, written-within (pre .0) gives), (number-small (pre .0) gives refl, (still-together (pre .0) gives .links, pre .1)))
 
 same-length : tie.Need-same-length
@@ -41,7 +41,7 @@ returns : tie.Need-returns
 returns c =
     let r = c .before .before .before .before .before .before .before in
     let pre = r .before .before .before .before .before .pre in
-    let gives = any-rows (r .before .before .bench-profile .ensures) (r .take-transmit .ensures) in
+    let gives = any-rows (r .before .before .bench-profile .ensures) (r .wegrulsta-take .ensures) in
     call-prints (pre .0) gives refl (pre .0 .places) (c .before .before .print-answer .ensures 32 _)
 
 pub make-take-spec : {M : Type 1} → statement M
@@ -49,8 +49,8 @@ make-take-spec =
     tie.close
     (tie.spec
     bench-profile-requires
-    slice-aggregate-take-transmit
-    take-transmit-requires
+    slice-aggregate-wegrulsta-take
+    wegrulsta-take-requires
     array-share-prefix-taken
     slice-aggregate-print-answer
     print-answer-requires

@@ -12,8 +12,8 @@ Inv-loop setup sizes records pool₀ buffer₀ run₀ turns₀ pool buffer run t
 abbrev μ-loop : tie.MeasureT-loop
 μ-loop setup sizes records pool₀ buffer₀ run₀ turns₀ pool buffer run turns = turns
 
-default-state-requires : tie.Need-default-state-requires Inv-loop μ-loop
-default-state-requires c κs = search needs
+wegrulsta-start-requires : tie.Need-wegrulsta-start-requires Inv-loop μ-loop
+wegrulsta-start-requires c κs = search needs
 
 loop-holds : tie.Need-loop-holds Inv-loop μ-loop
 loop-holds c = search needs
@@ -51,7 +51,7 @@ answer-all-spec =
     (tie.spec
     Inv-loop
     μ-loop
-    default-state-requires
+    wegrulsta-start-requires
     loop-holds
     step-requires
     sub-turns

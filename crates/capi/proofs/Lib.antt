@@ -1,2 +1,0 @@
--- Laws for the proofs of the calls for C.
-pub mod Finding
