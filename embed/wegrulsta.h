@@ -24,10 +24,10 @@
 #include <stdbool.h>
 #endif
 
-#define WEGRULSTA_VERSION_MAJOR 2
+#define WEGRULSTA_VERSION_MAJOR 3
 #define WEGRULSTA_VERSION_MINOR 0
 #define WEGRULSTA_VERSION_PATCH 0
-#define WEGRULSTA_VERSION "2.0.0"
+#define WEGRULSTA_VERSION "3.0.0"
 
 /* Refusal numbers; each has its question, and never comes for another cause. */
 #define WEGRULSTA_ACCEPTED 0

@@ -71,11 +71,13 @@ typedef struct wegrulsta_command {
     uint16_t opcode;
 } wegrulsta_command;
 
-/* A packet read as ACL data: WEGRULSTA_WHOLE, or why it is none; then handle and len are 0. The data are the len octets
- * from the sixth. */
+/* A packet read as ACL data: WEGRULSTA_WHOLE, or why it is none; then the other fields are 0. The flags are bits 12 and 13
+ * (boundary) and bits 14 and 15 (broadcast) of the packet's word; wegrulsta_packet drops data with broadcast 1 to 3 or
+ * boundary 3. The data are the len octets from the sixth. */
 typedef struct wegrulsta_acl {
     uint8_t kind;
     uint8_t boundary;
+    uint8_t broadcast;
     uint16_t handle;
     uint16_t len;
 } wegrulsta_acl;

@@ -177,11 +177,12 @@ WEGRULSTA_AT(command, kind, 0);
 WEGRULSTA_AT(command, len, 1);
 WEGRULSTA_AT(command, opcode, 2);
 
-WEGRULSTA_SIZE(acl, 6, 2);
+WEGRULSTA_SIZE(acl, 8, 2);
 WEGRULSTA_AT(acl, kind, 0);
 WEGRULSTA_AT(acl, boundary, 1);
-WEGRULSTA_AT(acl, handle, 2);
-WEGRULSTA_AT(acl, len, 4);
+WEGRULSTA_AT(acl, broadcast, 2);
+WEGRULSTA_AT(acl, handle, 4);
+WEGRULSTA_AT(acl, len, 6);
 
 WEGRULSTA_SIZE(length, 16, 8);
 WEGRULSTA_AT(length, kind, 0);

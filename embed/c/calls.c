@@ -35,14 +35,14 @@ static void print_writers(void) {
 }
 
 static void print_readers(void) {
-    static const uint8_t command[] = {0x01, 0x0A, 0x20, 0x01, 0x01}, data[] = {0x02, 0x01, 0x20, 0x02, 0x00, 0xAA, 0xBB};
+    static const uint8_t command[] = {0x01, 0x0A, 0x20, 0x01, 0x01}, data[] = {0x02, 0x01, 0x60, 0x02, 0x00, 0xAA, 0xBB};
     for (size_t count = 3; count <= 5; count++) {
         wegrulsta_command c = wegrulsta_read_command(command, count);
         printf("read_command\t%d\t%d\t%04x\n", c.kind, c.len, c.opcode);
     }
     for (size_t count = 4; count <= 7; count += 3) {
         wegrulsta_acl a = wegrulsta_read_acl(data, count);
-        printf("read_acl\t%d\t%d\t%d\t%d\n", a.kind, a.boundary, a.handle, a.len);
+        printf("read_acl\t%d\t%d\t%d\t%d\t%d\n", a.kind, a.boundary, a.broadcast, a.handle, a.len);
     }
     printf("read_acl\t%d\n", wegrulsta_read_acl(command, 5).kind);
     wegrulsta_length none = wegrulsta_packet_length(command, 0), whole = wegrulsta_packet_length(data, 7);

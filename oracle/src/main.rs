@@ -1,5 +1,6 @@
 //! Compares the port with the source that it was ported from, call by call. README.md says how to run it.
 mod aes;
+mod amendments;
 mod ble;
 mod call;
 mod clock;

@@ -1,5 +1,6 @@
 //! The source's side: the same octets in, the same answers out. The questions that the source has no limit for are asked here,
-//! before its call is made, in document 01's order.
+//! before its call is made, in document 01's order; what the customer asked for since stands before it too (`amendments`).
+use crate::amendments;
 use crate::ble::controller::Controller;
 use crate::ble::profile::BleProfile;
 use crate::call::Call;
@@ -161,6 +162,9 @@ pub fn call(c: &mut Controller, given: &Given, call: &Call) -> Reply {
 
 /// The random number is the eight octets that the source draws.
 fn packet(c: &mut Controller, given: &Given, p: &[u8]) -> Reply {
+    if amendments::dropped_by_flags(c, p) {
+        return Reply::default();
+    }
     let events = c.on_packet(given.address, p, &mut |octets| octets.copy_from_slice(&given.random));
     Reply { taken: 0, octets: events.concat() }
 }

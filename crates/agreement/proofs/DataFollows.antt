@@ -6,6 +6,7 @@ use mathlib.Core.Bool.{cond}
 use mathlib.Core.List.{List, []}
 use borrow.Table.Steps.{cases}
 use Rattle.hci.specs.Read.{parseAcl}
+use Rattle.hci.specs.declared.read.Acl.{Acl}
 use Rattle.hci.specs.declared.read.AclRead.{AclRead}
 use Rattle.hci.specs.declared.read.AclRead.the-variants as acl
 use Rattle.links.specs.Links.{enqueued}
@@ -15,17 +16,17 @@ use Rattle.calls.specs.Packets.{Profile, reply, accepts, headerOf, stored, disc
 use Rattle.credits.specs.Credits.{Buffers}
 use Rattle.credits.specs.Steps as steps
 use Rattle.credits.specs.Steps.{fits}
-use Rattle.agreement.specs.Agreement.{dataFed, limitsOf, buffersOf}
+use Rattle.agreement.specs.Agreement.{headerFed, dataFed, limitsOf, buffersOf}
 use Rattle.agreement.proofs.Splitting.{fed-nothing}
 use Rattle.agreement.proofs.ByDefinition.{seen}
 use Rattle.agreement.proofs.Links.{has-handle, in-use, enqueued-follows}
 use Rattle.agreement.proofs.Replying.{ReplyFollows}
 
 -- the packet is queued by one test
-accepts-fits : (g : Profile) (h n : ℕ) (m : Model)
-    → fits (limitsOf g) h n (buffersOf m) ≡ accepts (g .controller) (acl.Whole (record { handle = h; len = n })) m
+accepts-fits : (g : Profile) (d : Acl) (m : Model)
+    → fits (limitsOf g) (headerFed d) (buffersOf m) ≡ accepts (g .controller) (acl.Whole d) m
 unfolding fits
-accepts-fits g h n m = rw (has-handle h (m .links), in-use (m .links))
+accepts-fits g d m = rw (has-handle (d .handle) (m .links), in-use (m .links))
 
 queued-follows : (h : ℕ) (octets : List ℕ) (m : Model)
     → seen (withCounters (countPacket (m .counters)) (withLinks (enqueued h octets (m .links)) m))
@@ -41,12 +42,10 @@ left g r octets m =
 
 read-follows : (g : Profile) (r : AclRead) (octets : List ℕ) (m : Model) → ReplyFollows g (dataFed r) m (reply [] (left g r octets m))
 unfolding left
-read-follows g (acl.Whole header) octets m =
-    let h = header .handle in
-    let n = header .len in
-    let e = accepts-fits g h n m in
-    steps.Step.receive h n refl
-    (rw e (cases (accepts (g .controller) (acl.Whole header) m) (λ t. rw t (queued-follows h octets m)) (λ t. rw t)))
+read-follows g (acl.Whole d) octets m =
+    let e = accepts-fits g d m in
+    steps.Step.receive (headerFed d) refl
+    (rw e (cases (accepts (g .controller) (acl.Whole d) m) (λ t. rw t (queued-follows (d .handle) octets m)) (λ t. rw t)))
     (rw fed-nothing)
 read-follows g acl.ShortHeader octets m = steps.Step.pass refl refl (rw fed-nothing)
 read-follows g acl.NotAcl octets m = steps.Step.pass refl refl (rw fed-nothing)

@@ -12,6 +12,7 @@ use Rattle.octets.specs.Octets.{octet, word}
 use Rattle.lists.specs.Lists.{all}
 use Rattle.h4.specs.Framing.{packets}
 use Rattle.hci.specs.Read.{parseCommand, parameters, parseAcl}
+use Rattle.hci.specs.declared.read.Acl.{Acl}
 use Rattle.hci.specs.declared.read.AclRead.{AclRead}
 use Rattle.hci.specs.declared.read.CommandRead.{CommandRead}
 use Rattle.hci.specs.declared.read.AclRead.the-variants as acl
@@ -35,9 +36,12 @@ use Rattle.credits.specs.Credits as book
 
 -- ---- the arguments
 
--- "An ACL packet whose header parses": its handle and its length
+-- "An ACL packet whose header parses": all that its header says
+abbrev pub headerFed : Acl → book.Header
+headerFed d = record { handle = d .handle; boundary = d .boundary; broadcast = d .broadcast; len = d .len }
+
 abbrev pub dataFed : AclRead → book.Packet
-dataFed (acl.Whole header) = book.Packet.acl (header .handle) (header .len)
+dataFed (acl.Whole header) = book.Packet.acl (headerFed header)
 dataFed acl.ShortHeader = book.Packet.badHeader
 dataFed acl.NotAcl = book.Packet.badHeader
 dataFed acl.ShortData = book.Packet.badHeader

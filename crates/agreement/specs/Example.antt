@@ -134,9 +134,9 @@ restarted = stateWith 0x1FFFFFFFFFFF (maskDone ++ disconnectDone ++ resetDone)
 
 -- ---- the packets, and the pool that holds them: two places of 32 octets
 
--- five octets for link 1, as many as a packet may have for link 2, then three octets for link 1, and none
+-- five octets for link 1, with boundary flag 2, as many as a packet may have for link 2, then three octets for link 1, and none
 abbrev pub first : List ℕ
-first = acl 1 0 (replicate 5 0xAA)
+first = acl 1 2 (replicate 5 0xAA)
 
 abbrev pub second : List ℕ
 second = acl 2 0 (replicate 27 0xBB)

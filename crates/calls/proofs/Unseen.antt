@@ -21,7 +21,7 @@ use Rattle.transmit.proofs.Fitting.{place-room}
 use Rattle.state.specs.State.{Model}
 use Rattle.state.specs.Holding.{placeSize}
 use Rattle.state.proofs.Holding.{both, state-tested}
-use Rattle.calls.specs.Packets.{Profile, accepts, headerOf, stored, queues}
+use Rattle.calls.specs.Packets.{Profile, flagsServed, accepts, headerOf, stored, queues}
 use Rattle.calls.specs.Calls.{Call, onPacket, takeTransmit, openConnection, completed, dropInFlight, acceptConnection, peerUpdate, requestLtk, completeDisconnect, remoteDisconnect, advertisingTimeout, Held, modelOf, firstNo, questionsOf, questions, replyTo, takenBy}
 use Rattle.calls.specs.Gives.{Answer, Refused, PoolAfter, PoolLeft, Accepted, Gives}
 use Rattle.calls.specs.Unseen.{Alike, Unseen, StartsAlike}
@@ -34,7 +34,9 @@ header-fits : (k : ControllerRow) (r : AclRead) (m : Model) → accepts k r m �
 header-fits k (acl.Whole header) m e =
     let short = leb (header .len) (k .«acl_len») in
     let free = ltb (inUse (m .links)) (k .«acl_count») in
-    let tests = both (has (header .handle) (m .links .connections)) (short && free) e in
+    let linked = has (header .handle) (m .links .connections) in
+    let served = both (flagsServed header) (linked && (short && free)) e in
+    let tests = both linked (short && free) (served .1) in
     leb-true (header .len) (k .«acl_len») (both short free (tests .1) .0)
 header-fits k acl.ShortHeader m e = omega arith
 header-fits k acl.NotAcl m e = omega arith

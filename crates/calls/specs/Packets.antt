@@ -38,12 +38,18 @@ reply octets m = record { octets = octets; state = m }
 
 -- ---- data
 
--- sections 4.1.1 and 7.8.2: a packet is queued if its header parses, its handle is connected, its length is at most acl_len and
--- buffers in use are below acl_count
+-- "A packet with nonzero broadcast bits or boundary 3 is counted as dropped. That test comes after the header parses and before the
+-- handle is looked up." (E2)
+abbrev pub flagsServed : Acl → Bool
+flagsServed header = eqb (header .broadcast) 0 && leb (header .boundary) 2
+
+-- sections 4.1.1 and 7.8.2: a packet is queued if its header parses, its flags are served, its handle is connected, its length is at
+-- most acl_len and buffers in use are below acl_count
 abbrev pub accepts : ControllerRow → AclRead → Model → Bool
 accepts k (acl.Whole header) m =
-    has (header .handle) (m .links .connections)
-    && (leb (header .len) (k .«acl_len») && ltb (inUse (m .links)) (k .«acl_count»))
+    flagsServed header
+    && (has (header .handle) (m .links .connections)
+    && (leb (header .len) (k .«acl_len») && ltb (inUse (m .links)) (k .«acl_count»)))
 accepts k acl.ShortHeader m = false
 accepts k acl.NotAcl m = false
 accepts k acl.ShortData m = false
@@ -51,9 +57,9 @@ accepts k acl.ShortData m = false
 -- the header of a packet that parses; nothing is read of another
 abbrev pub headerOf : AclRead → Acl
 headerOf (acl.Whole header) = header
-headerOf acl.ShortHeader = record { handle = 0; len = 0 }
-headerOf acl.NotAcl = record { handle = 0; len = 0 }
-headerOf acl.ShortData = record { handle = 0; len = 0 }
+headerOf acl.ShortHeader = record { handle = 0; boundary = 0; broadcast = 0; len = 0 }
+headerOf acl.NotAcl = record { handle = 0; boundary = 0; broadcast = 0; len = 0 }
+headerOf acl.ShortData = record { handle = 0; boundary = 0; broadcast = 0; len = 0 }
 
 -- what waits is the packet as far as its length says
 abbrev pub stored : List ℕ → List ℕ

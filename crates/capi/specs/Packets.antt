@@ -31,14 +31,15 @@ commandOf command.ShortHeader = unread 1
 commandOf command.NotCommand = unread 2
 commandOf command.ShortParameters = unread 3
 
-abbrev pub dataOf : AclRead → ℕ → ReadAcl
-dataOf (acl.Whole c) boundary = record { kind = 0; boundary = boundary; handle = c .handle; len = c .len }
-dataOf acl.ShortHeader boundary = record { kind = 1; boundary = boundary; handle = 0; len = 0 }
-dataOf acl.NotAcl boundary = record { kind = 2; boundary = boundary; handle = 0; len = 0 }
-dataOf acl.ShortData boundary = record { kind = 3; boundary = boundary; handle = 0; len = 0 }
+abbrev pub dataOf : AclRead → ℕ → ℕ → ReadAcl
+dataOf (acl.Whole c) boundary broadcast =
+    record { kind = 0; boundary = boundary; broadcast = broadcast; handle = c .handle; len = c .len }
+dataOf acl.ShortHeader boundary broadcast = record { kind = 1; boundary = boundary; broadcast = broadcast; handle = 0; len = 0 }
+dataOf acl.NotAcl boundary broadcast = record { kind = 2; boundary = boundary; broadcast = broadcast; handle = 0; len = 0 }
+dataOf acl.ShortData boundary broadcast = record { kind = 3; boundary = boundary; broadcast = broadcast; handle = 0; len = 0 }
 
 abbrev pub aclOf : AclParts → ReadAcl
-aclOf parts = dataOf (parts .header) (parts .boundary)
+aclOf parts = dataOf (parts .header) (parts .boundary) (parts .broadcast)
 
 -- a writer's answer is its number and how many octets it wrote: what the writer of `hci` gives, in that form
 pub record Writes (n most : ℕ) (packet out : List ℕ) (r : Wrote) (after : List ℕ) : Type 0 where

@@ -47,11 +47,12 @@ pub struct ReadCommand {
     pub opcode: u16,
 }
 
-// The data are the len octets from the sixth.
+// The data are the len octets from the sixth. The flags are bits 12 and 13 of the packet's word, and bits 14 and 15.
 #[repr(C)]
 pub struct ReadAcl {
     pub kind: u8,
     pub boundary: u8,
+    pub broadcast: u8,
     pub handle: u16,
     pub len: u16,
 }
@@ -191,31 +192,35 @@ pub extern "C" fn wegrulsta_read_command(packet: &[u8]) -> ReadCommand
 }
 
 // What a packet read as ACL data is, as C gets it.
-fn data_of(answer: AclRead, boundary: u8) -> ReadAcl
-    ensures { λ r. ⌜ r ≡ dataOf answer boundary ⌝ }
+fn data_of(answer: AclRead, boundary: u8, broadcast: u8) -> ReadAcl
+    ensures { λ r. ⌜ r ≡ dataOf answer boundary broadcast ⌝ }
 {
     match answer {
         AclRead::Whole(c) => ReadAcl {
             kind: WHOLE,
             boundary,
+            broadcast,
             handle: c.handle,
             len: c.len,
         },
         AclRead::ShortHeader => ReadAcl {
             kind: SHORT_HEADER,
             boundary,
+            broadcast,
             handle: 0,
             len: 0,
         },
         AclRead::NotAcl => ReadAcl {
             kind: ANOTHER_KIND,
             boundary,
+            broadcast,
             handle: 0,
             len: 0,
         },
         AclRead::ShortData => ReadAcl {
             kind: SHORT_BODY,
             boundary,
+            broadcast,
             handle: 0,
             len: 0,
         },
@@ -229,7 +234,7 @@ pub extern "C" fn wegrulsta_read_acl(packet: &[u8]) -> ReadAcl
 {
     let parts = hci::acl_parts(packet);
     let header = parts.header;
-    data_of(header, parts.boundary)
+    data_of(header, parts.boundary, parts.broadcast)
 }
 
 // The opcode of a group and a command in it.

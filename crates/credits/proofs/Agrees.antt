@@ -9,7 +9,7 @@ use borrow.Author.Tests.{eqb-true, eqb-false, ne-eqb}
 use borrow.Table.Steps.{cases}
 use Rattle.lists.specs.Lists.{any, keep}
 use Rattle.lists.proofs.Same.{eqb-sym}
-use Rattle.credits.specs.Credits.{Packet, acl, setEventMask, Call, packet, opening, taking, completed, dropping, report, disconnected, resetDone, eventMaskSet, Book, blank, unacknowledged, put, sumBelow, noted, heard, heardAll, book, inUse}
+use Rattle.credits.specs.Credits.{Header, Packet, acl, setEventMask, Call, packet, opening, taking, completed, dropping, report, disconnected, resetDone, eventMaskSet, Book, blank, unacknowledged, put, sumBelow, noted, heard, heardAll, book, inUse}
 use Rattle.credits.specs.Steps.{has, others, State, initial, queued, ended, opened, given, afterTake, settled, events, openedLink, packets, at}
 use Rattle.credits.proofs.Sums.{put-own, sum-cong, sum-zero, sum-add, sum-put, sum-at}
 use Rattle.credits.proofs.Handles.{times, never, has-others-same, has-others, times-others-same, times-others, others-none, has-last, times-last-same, times-last, times-left-same, times-left, taken-times, length-sum}
@@ -67,22 +67,24 @@ module _ {s : State} {b : Book} (i : Agrees s b) where
       record { opens = i .opens; owes = i .owes; shut = i .shut; flying = i .flying; small = i .small; tells = e }
 
   -- a packet more waits in a link
-  pub agrees-queued : (h n : ℕ) → has h (s .buffers .handles) ≡ true
-      → Agrees (at (queued h (s .buffers)) s) (book b (packet (acl h n)) (events []))
+  pub agrees-queued : (d : Header) → has (d .handle) (s .buffers .handles) ≡ true
+      → Agrees (at (queued (d .handle) (s .buffers)) s) (book b (packet (acl d)) (events []))
   unfolding book noted heardAll
-  agrees-queued h n p = record {
-    opens = i .opens;
-    owes = λ x.
-        cases (eqb x h)
-        (λ e.
-        let same : x ≡ h = eqb-true x h e in
-        rw (e, same) (omega (arith, i .owes h, times-last-same h (s .buffers .waiting))))
-        (λ e. rw e (omega (arith, i .owes x, times-last x h (s .buffers .waiting) (eqb-false x h e))));
-    shut = λ x q. rw (apart x h p q) (i .shut x q);
-    flying = i .flying;
-    small = i .small;
-    tells = i .tells;
-  }
+  agrees-queued d p =
+      let h = d .handle in
+      record {
+        opens = i .opens;
+        owes = λ x.
+            cases (eqb x h)
+            (λ e.
+            let same : x ≡ h = eqb-true x h e in
+            rw (e, same) (omega (arith, i .owes h, times-last-same h (s .buffers .waiting))))
+            (λ e. rw e (omega (arith, i .owes x, times-last x h (s .buffers .waiting) (eqb-false x h e))));
+        shut = λ x q. rw (apart x h p q) (i .shut x q);
+        flying = i .flying;
+        small = i .small;
+        tells = i .tells;
+      }
 
   -- a link opens on a handle that had none
   pub agrees-opened : (h : ℕ) → has h (s .buffers .handles) ≡ false → h < 0x10000

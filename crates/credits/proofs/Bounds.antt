@@ -6,13 +6,13 @@ use Prim.Native.Nat.{ℕ, _≤_, _<_}
 use native.Mathlib.Omega.{arith}
 use lib.Dec.{leb, ltb}
 use lib.ListN.{length, length-append}
-use borrow.Author.Tests.{ltb-true, lt-ltb, le-leb}
+use borrow.Author.Tests.{ltb-true, eq-eqb, lt-ltb, le-leb}
 use borrow.Table.Steps.{cases}
 use Rattle.lists.specs.Lists.{distinctBy, distinct}
 use Rattle.lists.proofs.Fewer.{keep-fewer}
 use Rattle.lists.proofs.Distinct.{distinct-fewer, keys-push}
-use Rattle.credits.specs.Credits.{Call, Answer, Profile, Buffers, inUse, Within}
-use Rattle.credits.specs.Steps.{has, others, State, empty, queued, ended, opened, settled, afterTake, capacity, fits, received, canOpen, Step, refusal, pass, reset, mask, receive, connect, take, complete, discard, disconnect}
+use Rattle.credits.specs.Credits.{Header, Call, Answer, Profile, Buffers, inUse, Within}
+use Rattle.credits.specs.Steps.{has, others, State, empty, queued, ended, opened, settled, afterTake, capacity, flagsServed, fits, received, canOpen, Step, refusal, pass, reset, mask, receive, connect, take, complete, discard, disconnect}
 use Rattle.credits.proofs.Handles.{has-others-same, others-at-most, others-fewer, taken-left}
 
 pub within-empty : (k : Profile) → Within k empty
@@ -20,29 +20,33 @@ unfolding distinctBy
 within-empty k = record { room = omega arith; differ = refl; few = omega arith }
 
 -- what `fits` says, and back
-pub fits-parts : (k : Profile) (h n : ℕ) (s : Buffers) → fits k h n s ≡ true
-    → (has h (s .handles) ≡ true) × (inUse s < capacity k)
+pub fits-parts : (k : Profile) (d : Header) (s : Buffers) → fits k d s ≡ true
+    → (has (d .handle) (s .handles) ≡ true) × (inUse s < capacity k)
 unfolding fits
-fits-parts k h n s e =
-    let p = and-eq-true-iff (has h (s .handles)) (leb n (k .aclLen) && ltb (inUse s) (capacity k)) .0 e in
-    (p .0, ltb-true (inUse s) (capacity k) (and-eq-true-iff (leb n (k .aclLen)) (ltb (inUse s) (capacity k)) .0 (p .1) .1))
+fits-parts k d s e =
+    let room = ltb (inUse s) (capacity k) in
+    let short = leb (d .len) (k .aclLen) in
+    let p = and-eq-true-iff (flagsServed d) (has (d .handle) (s .handles) && (short && room)) .0 e in
+    let q = and-eq-true-iff (has (d .handle) (s .handles)) (short && room) .0 (p .1) in
+    (q .0, ltb-true (inUse s) (capacity k) (and-eq-true-iff short room .0 (q .1) .1))
 
-pub fits-all : (k : Profile) (h n : ℕ) (s : Buffers) → has h (s .handles) ≡ true → n ≤ k .aclLen → inUse s < capacity k
-    → fits k h n s ≡ true
+pub fits-all : (k : Profile) (d : Header) (s : Buffers) → d .broadcast ≡ 0 → d .boundary ≤ 2 → has (d .handle) (s .handles) ≡ true
+    → d .len ≤ k .aclLen → inUse s < capacity k → fits k d s ≡ true
 unfolding fits
-fits-all k h n s p q r = rw (p, le-leb n (k .aclLen) q, lt-ltb (inUse s) (capacity k) r)
+fits-all k d s f g p q r =
+    rw (eq-eqb (d .broadcast) 0 f, le-leb (d .boundary) 2 g, p, le-leb (d .len) (k .aclLen) q, lt-ltb (inUse s) (capacity k) r)
 
 -- ---- the changes
 module _ (k : Profile) (s : Buffers) (i : Within k s) where
-  within-queued : (h n : ℕ) → fits k h n s ≡ true → Within k (queued h s)
-  within-queued h n e = record {
-    room = omega (arith, fits-parts k h n s e .1, length-append (s .waiting) (h ∷ []));
+  within-queued : (d : Header) → fits k d s ≡ true → Within k (queued (d .handle) s)
+  within-queued d e = record {
+    room = omega (arith, fits-parts k d s e .1, length-append (s .waiting) (d .handle ∷ []));
     differ = i .differ;
     few = i .few;
   }
 
-  within-received : (h n : ℕ) → Within k (received k h n s)
-  within-received h n = cases (fits k h n s) (λ e. rw e (within-queued h n e)) (λ e. rw e i)
+  within-received : (d : Header) → Within k (received k d s)
+  within-received d = cases (fits k d s) (λ e. rw e (within-queued d e)) (λ e. rw e i)
 
   differ-others : (h : ℕ) → distinct (λ x. x) (others h (s .handles)) ≡ true
   differ-others h = distinct-fewer _ (keep-fewer _ (s .handles)) (i .differ)
@@ -80,7 +84,7 @@ within-step (refusal f e) i = rw e i
 within-step (pass p e q) i = rw e i
 within-step {k} (reset p e q) i = rw e (within-empty k)
 within-step (mask bit p e q) i = rw e i
-within-step {k} {s = s} (receive h n p e q) i = rw e (within-received k (s .buffers) i h n)
+within-step {k} {s = s} (receive d p e q) i = rw e (within-received k (s .buffers) i d)
 within-step {k} {s = s} (connect h p l o e q) i = rw e (within-opened k (s .buffers) i h o)
 within-step {k} {s = s} (take h most p e q) i = rw e (within-taken k (s .buffers) i h most)
 within-step {k} {s = s} (complete h n p e q) i = rw e (within-settled k (s .buffers) i n)

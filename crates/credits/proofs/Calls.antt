@@ -9,7 +9,7 @@ use lib.Dec.{eqb}
 use borrow.Author.Tests.{eqb-true, eqb-false}
 use borrow.Table.Steps.{cases}
 use Rattle.lists.specs.Lists.{any}
-use Rattle.credits.specs.Credits.{Packet, acl, badHeader, setEventMask, Call, packet, opening, taking, completed, dropping, report, eventMaskSet, Answer, Book, noted, heardAll, book, Profile, WellFormed, OpensUnused, Unmasked, ReportsTaken, DropsEnded, DropsNoOther, LinkKeeps, Buffers, Kept}
+use Rattle.credits.specs.Credits.{Header, Packet, acl, badHeader, setEventMask, Call, packet, opening, taking, completed, dropping, report, eventMaskSet, Answer, Book, noted, heardAll, book, Profile, WellFormed, OpensUnused, Unmasked, ReportsTaken, DropsEnded, DropsNoOther, LinkKeeps, Buffers, Kept}
 use Rattle.credits.specs.Steps.{State, settled, fits, received, mayPass, events, openedLink, at, Step, refusal, pass, reset, mask, receive, connect, take, complete, discard, disconnect}
 use Rattle.credits.proofs.Handles.{never, times-last-same}
 use Rattle.credits.proofs.Bounds.{fits-parts, fits-all}
@@ -46,7 +46,7 @@ at-most-ended n b w other = go (b .ended) refl
 -- ---- a call that does nothing
 book-passed : (b : Book) (c : Call) → mayPass c ≡ true → book b c (events []) ≡ b
 unfolding book noted heardAll
-book-passed b (packet (acl h n)) e = never false e refl
+book-passed b (packet (acl d)) e = never false e refl
 book-passed b (packet badHeader) e = refl
 book-passed b (packet (setEventMask bit)) e = refl
 book-passed b (packet Packet.other) e = refl
@@ -57,7 +57,7 @@ book-passed b (dropping n) e = never false e refl
 book-passed b Call.other e = refl
 
 kept-passed : (k : Profile) (b : Book) (c : Call) (s : Buffers) → mayPass c ≡ true → WellFormed k b c → Kept c s s
-kept-passed k b (packet (acl h n)) s e w = never false e refl
+kept-passed k b (packet (acl d)) s e w = never false e refl
 kept-passed k b (packet badHeader) s e w = w
 kept-passed k b (packet (setEventMask bit)) s e w = tt
 kept-passed k b (packet Packet.other) s e w = tt
@@ -70,19 +70,23 @@ kept-passed k b Call.other s e w = tt
 -- ---- an accepted call
 module _ (k : Profile) {s : State} {b : Book} (i : Agrees s b) where
   -- a packet of a host that keeps the rule is queued
-  received-fits : (h n : ℕ) → WellFormed k b (packet (acl h n)) → DropsEnded b (packet (acl h n))
-      → fits k h n (s .buffers) ≡ true
-  received-fits h n w d =
+  received-fits : (d : Header) → WellFormed k b (packet (acl d)) → DropsEnded b (packet (acl d)) → fits k d (s .buffers) ≡ true
+  received-fits d w drops =
       let none : b .ended ≡ 0 =
-      none-ended b (packet (acl h n)) d (λ m e. absurd (let z : _≡_ {A = ℕ} 0 1 = cc in omega arith)) in
-      fits-all k h n (s .buffers) (sym (i .opens h) ∙ w .0) (omega (arith, w .1)) (omega (arith, counts i, w .2))
+      none-ended b (packet (acl d)) drops (λ m e. absurd (let z : _≡_ {A = ℕ} 0 1 = cc in omega arith)) in
+      fits-all k d (s .buffers)
+      (omega (arith, w .noBroadcast))
+      (omega (arith, w .boundary))
+      (sym (i .opens (d .handle)) ∙ w .isOpen)
+      (omega (arith, w .short))
+      (omega (arith, counts i, w .credit))
 
-  received-agrees : (h n : ℕ) → Obeys k b (packet (acl h n)) (events [])
-      → Agrees (at (received k h n (s .buffers)) s) (book b (packet (acl h n)) (events []))
-      × Kept (packet (acl h n)) (s .buffers) (received k h n (s .buffers))
-  received-agrees h n w =
-      let e : fits k h n (s .buffers) ≡ true = received-fits h n (w .rule) (w .link .1) in
-      rw e (agrees-queued i h n (fits-parts k h n (s .buffers) e .0), times-last-same h (s .buffers .waiting))
+  received-agrees : (d : Header) → Obeys k b (packet (acl d)) (events [])
+      → Agrees (at (received k d (s .buffers)) s) (book b (packet (acl d)) (events []))
+      × Kept (packet (acl d)) (s .buffers) (received k d (s .buffers))
+  received-agrees d w =
+      let e : fits k d (s .buffers) ≡ true = received-fits d (w .rule) (w .link .1) in
+      rw e (agrees-queued i d (fits-parts k d (s .buffers) e .0), times-last-same (d .handle) (s .buffers .waiting))
 
   completed-agrees : (h n : ℕ) → ReportsTaken b (completed h n)
       → Agrees (at (settled n (s .buffers)) s) (book b (completed h n) (events (cond (eqb n 0) [] (report h n ∷ []))))
@@ -106,8 +110,8 @@ step-agrees {b = b} (reset p e q) i w = (rw (e, q, p) (agrees-reset b), λ y. rw
 step-agrees {k} {b = b} (mask bit p e q) i w =
     let v : Obeys k b (packet (setEventMask bit)) (events (eventMaskSet ∷ [])) = rw (p, q) at (w (rw q)) in
     (rw (e, q, p) (agrees-masked i bit (v .unmasked bit refl refl)), λ y. rw p tt)
-step-agrees {k} (receive h n p e q) i w =
-    let f = received-agrees k i h n (rw (p, q) at (w (rw q))) in
+step-agrees {k} (receive d p e q) i w =
+    let f = received-agrees k i d (rw (p, q) at (w (rw q))) in
     (rw (e, q, p) (f .0), λ y. rw (e, p) (f .1))
 step-agrees {k} {b = b} (connect h p l o e q) i w =
     let v : Obeys k b (opening h) openedLink = rw (p, q) at (w (rw q)) in

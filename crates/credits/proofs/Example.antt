@@ -9,7 +9,7 @@ use Prim.Native.Nat.{ℕ, _≤_, _<_}
 use native.Mathlib.Omega.{arith}
 use lib.Dec.{lit<, lit≤}
 use Rattle.lists.specs.Lists.{any, keep, taken, leaving}
-use Rattle.credits.specs.Credits.{Packet, acl, badHeader, setEventMask, Call, packet, opening, taking, completed, dropping, report, disconnected, resetDone, eventMaskSet, Answer, Book, blank, unacknowledged, sumBelow, put, noted, heard, heardAll, book, Profile, WellFormed, OpensUnused, Unmasked, ReportsTaken, DropsEnded, DropsNoOther, Reading, Made, Chained, lastOf, callOf, answerOf, bookAfter, AllAlong, Premises, NothingDropped, CreditsHold}
+use Rattle.credits.specs.Credits.{Header, Packet, acl, badHeader, setEventMask, Call, packet, opening, taking, completed, dropping, report, disconnected, resetDone, eventMaskSet, Answer, Book, blank, unacknowledged, sumBelow, put, noted, heard, heardAll, book, Profile, FitToSend, WellFormed, OpensUnused, Unmasked, ReportsTaken, DropsEnded, DropsNoOther, Reading, Made, Chained, lastOf, callOf, answerOf, bookAfter, AllAlong, Premises, NothingDropped, CreditsHold}
 use Rattle.credits.specs.Steps.{State, initial, fits, events, openedLink, packets, Step, refusal, pass, reset, mask, receive, connect, take, complete, discard, disconnect}
 use Rattle.credits.proofs.Sums.{sum-zero, sum-put}
 use Rattle.credits.proofs.Handles.{never}
@@ -36,6 +36,10 @@ claim =
     initial tt refl refl
 
 -- ---- the run
+-- of a packet to one link: its handle, its boundary flag and its length
+abbrev pub header : ℕ → ℕ → ℕ → Header
+header h boundary n = record { handle = h; boundary = boundary; broadcast = 0; len = n }
+
 -- a call, the handles of the links after it, those of the waiting packets, how many are in flight, and the answer
 abbrev pub entry : Call → List ℕ → List ℕ → ℕ → Answer → Made Call State Answer
 entry c hs ws n a =
@@ -50,22 +54,22 @@ run =
     ∷ entry Call.other [] [] 0 (events [])
     ∷ entry (opening 1) (1 ∷ []) [] 0 openedLink
     ∷ entry (opening 2) (1 ∷ 2 ∷ []) [] 0 openedLink
-    ∷ entry (packet (acl 1 5)) (1 ∷ 2 ∷ []) (1 ∷ []) 0 (events [])
-    ∷ entry (packet (acl 2 27)) (1 ∷ 2 ∷ []) (1 ∷ 2 ∷ []) 0 (events [])
+    ∷ entry (packet (acl (header 1 2 5))) (1 ∷ 2 ∷ []) (1 ∷ []) 0 (events [])
+    ∷ entry (packet (acl (header 2 0 27))) (1 ∷ 2 ∷ []) (1 ∷ 2 ∷ []) 0 (events [])
     ∷ entry (taking 1) (1 ∷ 2 ∷ []) (2 ∷ []) 1 (packets 1)
     ∷ entry (taking 2) (1 ∷ 2 ∷ []) [] 2 (packets 1)
     ∷ entry (completed 1 1) (1 ∷ 2 ∷ []) [] 1 (events (report 1 1 ∷ []))
-    ∷ entry (packet (acl 9 99)) (1 ∷ 2 ∷ []) [] 1 refused
+    ∷ entry (packet (acl (header 9 0 99))) (1 ∷ 2 ∷ []) [] 1 refused
     ∷ entry Call.other (1 ∷ 2 ∷ []) [] 1 (events [])
     ∷ entry Call.other (1 ∷ 2 ∷ []) [] 1 (events [])
     ∷ entry Call.other (1 ∷ []) [] 1 (events (disconnected 2 ∷ []))
     ∷ entry (dropping 1) (1 ∷ []) [] 0 (events [])
-    ∷ entry (packet (acl 1 3)) (1 ∷ []) (1 ∷ []) 0 (events [])
+    ∷ entry (packet (acl (header 1 0 3))) (1 ∷ []) (1 ∷ []) 0 (events [])
     ∷ entry (packet Packet.other) (1 ∷ []) (1 ∷ []) 0 (events [])
     ∷ entry Call.other [] [] 0 (events (disconnected 1 ∷ []))
     ∷ entry (packet Packet.other) [] [] 0 (events (resetDone ∷ []))
     ∷ entry (opening 1) (1 ∷ []) [] 0 openedLink
-    ∷ entry (packet (acl 1 0)) (1 ∷ []) (1 ∷ []) 0 (events [])
+    ∷ entry (packet (acl (header 1 0 0))) (1 ∷ []) (1 ∷ []) 0 (events [])
     ∷ []
 
 -- the facts about the calls of a list, one by one
@@ -81,8 +85,8 @@ run-chained =
     and pass refl refl refl
     and connect 1 refl (lit< tt) refl refl refl
     and connect 2 refl (lit< tt) refl refl refl
-    and receive 1 5 refl refl refl
-    and receive 2 27 refl refl refl
+    and receive (header 1 2 5) refl refl refl
+    and receive (header 2 0 27) refl refl refl
     and take 1 1 refl refl refl
     and take 2 8 refl refl refl
     and complete 1 1 refl refl refl
@@ -91,18 +95,18 @@ run-chained =
     and pass refl refl refl
     and disconnect 2 refl refl refl refl
     and discard 1 refl refl refl
-    and receive 1 3 refl refl refl
+    and receive (header 1 0 3) refl refl refl
     and pass refl refl refl
     and disconnect 1 refl refl refl refl
     and reset refl refl refl
     and connect 1 refl (lit< tt) refl refl refl
-    and receive 1 0 refl refl refl
+    and receive (header 1 0 0) refl refl refl
     and tt
 
 -- ---- the premises at one call, from the book before it
 -- which calls the premises name
 abbrev pub kind : Call → ℕ
-kind (packet (acl h n)) = 0
+kind (packet (acl d)) = 0
 kind (packet badHeader) = 0
 kind (packet (setEventMask bit)) = 1
 kind (packet Packet.other) = 0
@@ -209,6 +213,11 @@ none-left =
       sum-put 0x10000 owedTwo 2 0 (lit< tt),
     )
 
+-- a packet that the host may send
+may-send : {k : Profile} {b : Book} (h boundary n : ℕ) → b .isOpen h ≡ true → boundary ≤ 2 → n ≤ k .aclLen
+    → unacknowledged b < k .aclCount → FitToSend k b (header h boundary n)
+may-send h boundary n o f l u = record { isOpen = o; short = l; credit = u; noBroadcast = refl; boundary = f }
+
 run-obeys : AllAlong reading (Obeys bench) blank run
 unfolding noted heard heardAll book
 run-obeys =
@@ -216,8 +225,8 @@ run-obeys =
     and (λ x. obeys-other Call.other refl tt refl)
     and (λ x. obeys-opening 1 refl refl)
     and (λ x. obeys-opening 2 refl refl)
-    and (λ x. obeys-other (packet (acl 1 5)) refl (refl, lit≤ tt, none-owed) refl)
-    and (λ x. obeys-other (packet (acl 2 27)) refl (refl, lit≤ tt, one-owed) refl)
+    and (λ x. obeys-other (packet (acl (header 1 2 5))) refl (may-send 1 2 5 refl (lit≤ tt) (lit≤ tt) none-owed) refl)
+    and (λ x. obeys-other (packet (acl (header 2 0 27))) refl (may-send 2 0 27 refl (lit≤ tt) (lit≤ tt) one-owed) refl)
     and (λ x. obeys-other (taking 1) refl tt refl)
     and (λ x. obeys-other (taking 2) refl tt refl)
     and (λ x. obeys-completed 1 1 refl (lit≤ tt) refl)
@@ -226,12 +235,12 @@ run-obeys =
     and (λ x. obeys-other Call.other refl tt refl)
     and (λ x. obeys-other Call.other refl tt refl)
     and (λ x. obeys-dropping 1 (lit≤ tt) (lit< tt))
-    and (λ x. obeys-other (packet (acl 1 3)) refl (refl, lit≤ tt, none-left) refl)
+    and (λ x. obeys-other (packet (acl (header 1 0 3))) refl (may-send 1 0 3 refl (lit≤ tt) (lit≤ tt) none-left) refl)
     and (λ x. obeys-other (packet Packet.other) refl tt refl)
     and (λ x. obeys-other Call.other refl tt refl)
     and (λ x. obeys-other (packet Packet.other) refl tt refl)
     and (λ x. obeys-opening 1 refl refl)
-    and (λ x. obeys-other (packet (acl 1 0)) refl (refl, lit≤ tt, none-owed) refl)
+    and (λ x. obeys-other (packet (acl (header 1 0 0))) refl (may-send 1 0 0 refl (lit≤ tt) (lit≤ tt) none-owed) refl)
     and tt
 
 module _ {C S A : Type 0} (r : Reading C S A) where

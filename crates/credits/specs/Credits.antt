@@ -15,9 +15,16 @@ use Rattle.lists.specs.Lists.{any, keep, distinct}
 -- "The host's book is fed each call's arguments, whether it was accepted, whether it opened a link by demand 2's definitions,
 -- its events and how many packets it took, never the state."
 
+-- "Reading an ACL header must also give bits 12 and 13 (boundary) and bits 14 and 15 (broadcast)." (E2)
+pub record Header : Type 0 where
+  pub handle : ℕ
+  pub boundary : ℕ
+  pub broadcast : ℕ
+  pub len : ℕ
+
 -- A packet of the host, with what the book and the premises read of it.
 pub data Packet : Type 0 where
-  acl : ℕ → ℕ → Packet  -- first octet 0x02, and the header parses: handle and length
+  acl : Header → Packet  -- first octet 0x02, and the header parses
   badHeader : Packet  -- first octet 0x02, and the header does not parse
   setEventMask : Bool → Packet  -- command 0x0C01, its row modelled: bit 4 of p[0]
   other : Packet
@@ -73,8 +80,8 @@ put f h v k = cond (eqb k h) v (f k)
 -- handle. A take adds the packets it gave to its handle's `out`. `completed` lowers its handle's `out` by its count, a drop
 -- `ended`, neither below 0." (`-` stops at 0.)
 unfoldable pub noted : Book → Call → Answer → Book
-noted b (packet (acl h n)) a =
-    record { isOpen = b .isOpen; owed = put (b .owed) h (b .owed h + 1); out = b .out; ended = b .ended }
+noted b (packet (acl d)) a =
+    record { isOpen = b .isOpen; owed = put (b .owed) (d .handle) (b .owed (d .handle) + 1); out = b .out; ended = b .ended }
 noted b (packet badHeader) a = b
 noted b (packet (setEventMask bit)) a = b
 noted b (packet other) a = b
@@ -118,9 +125,17 @@ pub record Profile : Type 0 where
   pub aclCount : ℕ
 
 -- "The host keeps the rule (Core section 4) if each accepted packet with first octet 0x02 is well-formed, that is, its header
--- parses, its handle is open, its length at most acl_len and the count before it below acl_count."
+-- parses, its handle is open, its length at most acl_len and the count before it below acl_count." "A host's well-formed packet
+-- now has broadcast 0 and boundary 0 to 2." (E2)
+pub record FitToSend (k : Profile) (b : Book) (d : Header) : Type 0 where
+  pub isOpen : b .isOpen (d .handle) ≡ true
+  pub short : d .len ≤ k .aclLen
+  pub credit : unacknowledged b < k .aclCount
+  pub noBroadcast : d .broadcast ≡ 0
+  pub boundary : d .boundary ≤ 2
+
 abbrev pub WellFormed : Profile → Book → Call → Type 0
-WellFormed k b (packet (acl h n)) = (b .isOpen h ≡ true) × (n ≤ k .aclLen) × (unacknowledged b < k .aclCount)
+WellFormed k b (packet (acl d)) = FitToSend k b d
 WellFormed k b (packet badHeader) = ⊥
 WellFormed k b (packet (setEventMask bit)) = Unit {0}
 WellFormed k b (packet Packet.other) = Unit {0}
@@ -213,7 +228,7 @@ pub record Within (k : Profile) (s : Buffers) : Type 0 where
 -- "A data packet is dropped if its accepted call adds no waiting packet to its link." It is kept if the call adds one; one whose
 -- header does not parse has no link, and is never kept.
 abbrev pub Kept : Call → Buffers → Buffers → Type 0
-Kept (packet (acl h n)) s t = waitingIn h t ≡ waitingIn h s + 1
+Kept (packet (acl d)) s t = waitingIn (d .handle) t ≡ waitingIn (d .handle) s + 1
 Kept (packet badHeader) s t = ⊥
 Kept (packet (setEventMask bit)) s t = Unit {0}
 Kept (packet Packet.other) s t = Unit {0}

@@ -9,7 +9,7 @@ use Prim.Native.Nat.{ℕ, _+_, _-_, _<_}
 use lib.Dec.{eqb, leb, ltb}
 use lib.ListN.{length}
 use Rattle.lists.specs.Lists.{any, keep, taken, leaving}
-use Rattle.credits.specs.Credits.{Packet, acl, badHeader, setEventMask, Call, packet, opening, taking, completed, dropping, Event, report, disconnected, resetDone, eventMaskSet, Answer, Profile, Buffers, inUse}
+use Rattle.credits.specs.Credits.{Header, Packet, acl, badHeader, setEventMask, Call, packet, opening, taking, completed, dropping, Event, report, disconnected, resetDone, eventMaskSet, Answer, Profile, Buffers, inUse}
 
 -- ---- lists of handles
 
@@ -70,13 +70,18 @@ settled n s = record { handles = s .handles; waiting = s .waiting; inFlight = s 
 abbrev pub capacity : Profile → ℕ
 capacity k = k .aclCount
 
+-- "A packet with nonzero broadcast bits or boundary 3 is counted as dropped." (E2)
+abbrev pub flagsServed : Header → Bool
+flagsServed d = eqb (d .broadcast) 0 && leb (d .boundary) 2
+
 -- an ACL packet is queued
-unfoldable pub fits : Profile → ℕ → ℕ → Buffers → Bool
-fits k h n s = has h (s .handles) && (leb n (k .aclLen) && ltb (inUse s) (capacity k))
+unfoldable pub fits : Profile → Header → Buffers → Bool
+fits k d s =
+    flagsServed d && (has (d .handle) (s .handles) && (leb (d .len) (k .aclLen) && ltb (inUse s) (capacity k)))
 
 -- an ACL packet, queued or dropped
-abbrev pub received : Profile → ℕ → ℕ → Buffers → Buffers
-received k h n s = cond (fits k h n s) (queued h s) s
+abbrev pub received : Profile → Header → Buffers → Buffers
+received k d s = cond (fits k d s) (queued (d .handle) s) s
 
 -- question 6
 abbrev pub canOpen : ℕ → Buffers → Bool
@@ -84,7 +89,7 @@ canOpen h s = has h (s .handles) || ltb (length (s .handles)) 16
 
 -- a call that may leave the buffers as they are and give no event that the book reads
 abbrev pub mayPass : Call → Bool
-mayPass (packet (acl h n)) = false
+mayPass (packet (acl d)) = false
 mayPass (packet badHeader) = true
 mayPass (packet (setEventMask bit)) = true
 mayPass (packet Packet.other) = true
@@ -119,8 +124,7 @@ pub data Step (k : Profile) (c : Call) (s t : State) (a : Answer) : Type 0 where
   mask : (bit : Bool) → c ≡ packet (setEventMask bit) → t ≡ record { buffers = s .buffers; unmasked = bit }
       → a ≡ events (eventMaskSet ∷ []) → Step k c s t a
   -- an ACL packet
-  receive : (h n : ℕ) → c ≡ packet (acl h n) → t ≡ at (received k h n (s .buffers)) s
-      → a ≡ events [] → Step k c s t a
+  receive : (d : Header) → c ≡ packet (acl d) → t ≡ at (received k d (s .buffers)) s → a ≡ events [] → Step k c s t a
   -- open_connection, accept_connection; a handle is a 16-bit number
   connect : (h : ℕ) → c ≡ opening h → h < 0x10000 → canOpen h (s .buffers) ≡ true → t ≡ at (opened h (s .buffers)) s
       → a ≡ openedLink → Step k c s t a

@@ -37,8 +37,12 @@ short : parseCommand (0x01 ∷ 0x06 ∷ 0x20 ∷ 0x03 ∷ 0x00 ∷ 0x00 ∷ []) 
 unfolding parseCommand
 short = refl
 
--- the boundary flag is no part of the handle: word 0x2001 is handle 1, boundary 2
-flags : aclParts (0x02 ∷ 0x01 ∷ 0x20 ∷ 0x01 ∷ 0x00 ∷ 0xaa ∷ 0xbb ∷ []) ≡ record { header = acl-read.Whole (record { handle = 1; len = 1 }); boundary = 2 }
+-- the flags are no part of the handle: word 0x6001 is handle 1, boundary 2, broadcast 1
+flags : aclParts (0x02 ∷ 0x01 ∷ 0x60 ∷ 0x01 ∷ 0x00 ∷ 0xaa ∷ 0xbb ∷ []) ≡ record {
+  header = acl-read.Whole (record { handle = 1; boundary = 2; broadcast = 1; len = 1 });
+  boundary = 2;
+  broadcast = 1;
+}
 unfolding parseAcl
 flags = refl
 

@@ -27,20 +27,32 @@ module _ (handle boundary : ℕ) (load more : List ℕ) (fits : length load ≤ 
   word-read : word packet 1 ≡ aclWord handle boundary
   word-read = omega arith
 
-  whole : Whole (record { handle = aclWord handle boundary % 4096; len = length load }) ≡ parseAcl packet
-  whole = acl-whole packet (omega (arith, length-append load more)) refl (omega (arith, length-append load more)) (sym word-read) (sym length-read)
+  whole : Whole (record {
+    handle = aclWord handle boundary % 4096;
+    boundary = aclWord handle boundary / 4096 % 4;
+    broadcast = aclWord handle boundary / 16384;
+    len = length load;
+  }) ≡ parseAcl packet
+  whole =
+      let long : length load ≤ length (load ++ more) = omega (arith, length-append load more) in
+      acl-whole packet (omega arith) refl (omega arith) (sym word-read) (rw word-read) (rw word-read) (sym length-read)
 
   -- the data is read back
   pub data-back : aclData packet ≡ load
   data-back = rw (sym whole, length-read) (take-append-seam load more)
 
-  -- the handle and the boundary flag are read back
-  pub parts-back : handle < 4096 → boundary < 4 → aclParts packet ≡ record { header = Whole (record { handle = handle; len = length load }); boundary = boundary }
+  -- the handle and the boundary flag are read back, and broadcast 0
+  pub parts-back : handle < 4096 → boundary < 4 → aclParts packet ≡ record {
+    header = Whole (record { handle = handle; boundary = boundary; broadcast = 0; len = length load });
+    boundary = boundary;
+    broadcast = 0;
+  }
   parts-back h b =
       let w : aclWord handle boundary % 4096 ≡ handle = omega arith in
       let q : aclWord handle boundary / 4096 ≡ boundary % 4 = omega arith in
       let f : aclWord handle boundary / 4096 % 4 ≡ boundary = rw q (omega arith) in
-      rw (sym whole, word-read, w, f)
+      let g : aclWord handle boundary / 16384 ≡ 0 = omega arith in
+      rw (sym whole, word-read, w, f, g)
 
 -- the opcode of a group below 64 and a command below 1,024 (Core Vol 4 Part E section 5.4.1)
 pub opcode-parts : (ogf ocf : ℕ) → ogf < 64 → ocf < 1024 → opcodeOf ogf ocf ≡ ogf * 1024 + ocf

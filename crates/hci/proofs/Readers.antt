@@ -50,10 +50,18 @@ module _ (p : List ℕ) where
   unfolding parseAcl
   acl-short h k n = simp (le-ltb (length p) 5 h, eq-eqb (octet p 0) 2 k, lt-ltb (length p - 5) (word p 3) n)
 
-  pub acl-whole : 5 ≤ length p → octet p 0 ≡ 2 → word p 3 ≤ length p - 5 → {w n : ℕ} → w ≡ word p 1 → n ≡ word p 3
-      → acl.Whole (record { handle = w % 4096; len = n }) ≡ parseAcl p
+  pub acl-whole : 5 ≤ length p → octet p 0 ≡ 2 → word p 3 ≤ length p - 5
+      → {w f g n : ℕ} → w ≡ word p 1 → f ≡ word p 1 / 4096 % 4 → g ≡ word p 1 / 16384 → n ≡ word p 3
+      → acl.Whole (record { handle = w % 4096; boundary = f; broadcast = g; len = n }) ≡ parseAcl p
   unfolding parseAcl
-  acl-whole h k n d e = simp (le-ltb (length p) 5 h, eq-eqb (octet p 0) 2 k, le-ltb (length p - 5) (word p 3) n, d, e)
+  acl-whole h k n d f g e =
+      simp (le-ltb (length p) 5 h, eq-eqb (octet p 0) 2 k, le-ltb (length p - 5) (word p 3) n, d, f, g, e)
+
+  -- the same where both flags are read of the word's high octet
+  pub acl-octets : 5 ≤ length p → octet p 0 ≡ 2 → word p 3 ≤ length p - 5 → octet p 1 < 256
+      → {w n : ℕ} → w ≡ word p 1 → n ≡ word p 3
+      → acl.Whole (record { handle = w % 4096; boundary = octet p 2 / 16 % 4; broadcast = octet p 2 / 64; len = n }) ≡ parseAcl p
+  acl-octets h k n low d e = acl-whole h k n d (omega arith) (omega arith) e
 
 -- what a packet that was read as a command tells
 pub record CommandTells (p : List ℕ) (it : Command) : Type 0 where
@@ -86,25 +94,37 @@ command-tells p {it} e = go (ltb (length p) 4) refl (eqb (octet p 0) 1) refl (lt
 pub record AclTells (p : List ℕ) (it : Acl) : Type 0 where
   pub kind : octet p 0 ≡ 2
   pub connection : it .handle ≡ word p 1 % 4096
+  pub bounds : it .boundary ≡ word p 1 / 4096 % 4
+  pub casts : it .broadcast ≡ word p 1 / 16384
   pub long : it .len ≡ word p 3
   pub present : 5 + it .len ≤ length p
+
+abbrev headerOf : List ℕ → Acl
+headerOf p = record {
+  handle = word p 1 % 4096;
+  boundary = word p 1 / 4096 % 4;
+  broadcast = word p 1 / 16384;
+  len = word p 3;
+}
 
 pub acl-tells : (p : List ℕ) {it : Acl} → parseAcl p ≡ acl.Whole it → AclTells p it
 unfolding parseAcl
 acl-tells p {it} e = go (ltb (length p) 5) refl (eqb (octet p 0) 2) refl (ltb (length p - 5) (word p 3)) refl e
   where
     go : (t : Bool) → ltb (length p) 5 ≡ t → (s : Bool) → eqb (octet p 0) 2 ≡ s → (u : Bool) → ltb (length p - 5) (word p 3) ≡ u
-        → cond t acl.ShortHeader (cond s (cond u acl.ShortData (acl.Whole (record { handle = word p 1 % 4096; len = word p 3 }))) acl.NotAcl) ≡ acl.Whole it
+        → cond t acl.ShortHeader (cond s (cond u acl.ShortData (acl.Whole (headerOf p))) acl.NotAcl) ≡ acl.Whole it
         → AclTells p it
     go true a s b u d e = let z : _≡_ {A = ℕ} 0 1 = cc in absurd (omega arith)
     go false a false b u d e = let z : _≡_ {A = ℕ} 0 1 = cc in absurd (omega arith)
     go false a true b true d e = let z : _≡_ {A = ℕ} 0 1 = cc in absurd (omega arith)
     go false a true b false d e =
-        let same : record { handle = word p 1 % 4096; len = word p 3 } ≡ it = cc in
+        let same : headerOf p ≡ it = cc in
         let n : word p 3 ≡ it .len = ap (λ (x : Acl). x .len) same in
         record {
           kind = eqb-true (octet p 0) 2 b;
           connection = sym (ap (λ (x : Acl). x .handle) same);
+          bounds = sym (ap (λ (x : Acl). x .boundary) same);
+          casts = sym (ap (λ (x : Acl). x .broadcast) same);
           long = sym n;
           present = omega (arith, ltb-false (length p) 5 a, ltb-false (length p - 5) (word p 3) d, n);
         }
@@ -126,12 +146,12 @@ module _ (p : List ℕ) where
   pub data-none : isWhole (parseAcl p) ≡ false → [] ≡ aclData p
   data-none e = rw e
 
-  pub parts-read : {it : Acl} → parseAcl p ≡ acl.Whole it → octet p 1 < 256 → record { header = acl.Whole it; boundary = octet p 2 / 16 % 4 } ≡ aclParts p
-  parts-read e h =
-      let b : octet p 2 / 16 % 4 ≡ (octet p 1 + 256 * octet p 2) / 4096 % 4 = omega arith in
-      rw (e, b)
+  pub parts-read : {it : Acl} → parseAcl p ≡ acl.Whole it
+      → record { header = acl.Whole it; boundary = it .boundary; broadcast = it .broadcast } ≡ aclParts p
+  parts-read e = rw (e, acl-tells p e .bounds, acl-tells p e .casts)
 
-  pub parts-none : {r : AclRead} → r ≡ parseAcl p → isWhole r ≡ false → record { header = r; boundary = 0 } ≡ aclParts p
+  pub parts-none : {r : AclRead} → r ≡ parseAcl p → isWhole r ≡ false
+      → record { header = r; boundary = 0; broadcast = 0 } ≡ aclParts p
   parts-none d e =
       let f : isWhole (parseAcl p) ≡ false = rw d at e in
       rw (d, f)

@@ -25,25 +25,36 @@ parseCommand p =
 abbrev pub parameters : List ℕ → List ℕ
 parameters p = take (octet p 3) (drop 4 p)
 
--- 5.4.2: indicator 0x02, a word with the handle in its low 12 bits, how many octets of data, the data; what follows them
--- is ignored
+-- 5.4.2: indicator 0x02, a word with the handle in its low 12 bits, the packet boundary flag in bits 12 and 13 and the broadcast
+-- flag in bits 14 and 15, how many octets of data, the data; what follows them is ignored. "Reading an ACL header must also give
+-- bits 12 and 13 (boundary) and bits 14 and 15 (broadcast)." (E2)
 unfoldable pub parseAcl : List ℕ → AclRead
 parseAcl p =
     cond (ltb (length p) 5) acl.ShortHeader
     (cond (eqb (octet p 0) 0x02)
     (cond (ltb (length p - 5) (word p 3)) acl.ShortData
-    (acl.Whole (record { handle = word p 1 % 4096; len = word p 3 })))
+    (acl.Whole (record {
+      handle = word p 1 % 4096;
+      boundary = word p 1 / 4096 % 4;
+      broadcast = word p 1 / 16384;
+      len = word p 3;
+    })))
     acl.NotAcl)
 
--- the packet's boundary flag, bits 12 and 13 of its word, beside its header
+-- whether a packet is read
 abbrev pub isWhole : AclRead → Bool
 isWhole (acl.Whole header) = true
 isWhole acl.ShortHeader = false
 isWhole acl.NotAcl = false
 isWhole acl.ShortData = false
 
+-- the flags of a packet that is read beside its header, and 0 of another
 abbrev pub aclParts : List ℕ → AclParts
-aclParts p = record { header = parseAcl p; boundary = cond (isWhole (parseAcl p)) (word p 1 / 4096 % 4) 0 }
+aclParts p = record {
+  header = parseAcl p;
+  boundary = cond (isWhole (parseAcl p)) (word p 1 / 4096 % 4) 0;
+  broadcast = cond (isWhole (parseAcl p)) (word p 1 / 16384) 0;
+}
 
 -- the data of a packet that is read, and none of another
 abbrev pub aclData : List ℕ → List ℕ

@@ -40,9 +40,12 @@ impl Command {
     }
 }
 
-// An ACL data packet: the handle in the low 12 bits of its first word, and how many octets of data follow the first five.
+// An ACL data packet: the handle in the low 12 bits of its first word, the packet boundary flag in bits 12 and 13, the broadcast
+// flag in bits 14 and 15, and how many octets of data follow the first five.
 pub struct Acl {
     pub handle: u16,
+    pub boundary: u8,
+    pub broadcast: u8,
     pub len: u16,
 }
 
@@ -70,16 +73,19 @@ impl Acl {
         }
         AclRead::Whole(Acl {
             handle: octets::word_at(h4, 1) % 4096,
+            boundary: h4[2] / 16 % 4,
+            broadcast: h4[2] / 64,
             len,
         })
     }
 }
 
-// What the header of an ACL data packet says, with its boundary flag (bits 12 and 13 of its first word; 0 where the packet
-// is not read). The data itself is handed back by `acl_data`.
+// What the header of an ACL data packet says, with its boundary flag (bits 12 and 13 of its first word) and its broadcast flag
+// (bits 14 and 15), both 0 where the packet is not read. The data itself is handed back by `acl_data`.
 pub struct AclParts {
     pub header: AclRead,
     pub boundary: u8,
+    pub broadcast: u8,
 }
 
 pub fn acl_parts(h4: &[u8]) -> AclParts
@@ -89,11 +95,13 @@ pub fn acl_parts(h4: &[u8]) -> AclParts
     match header {
         AclRead::Whole(acl) => AclParts {
             header: AclRead::Whole(acl),
-            boundary: h4[2] / 16 % 4,
+            boundary: acl.boundary,
+            broadcast: acl.broadcast,
         },
         other => AclParts {
             header: other,
             boundary: 0,
+            broadcast: 0,
         },
     }
 }

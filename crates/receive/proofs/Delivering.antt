@@ -3,11 +3,12 @@
 use mathlib.Core.Path.{_≡_, refl, sym, ap, _∙_}
 use Prim.Native.Nat.{ℕ, _+_, _≤_, _<_}
 use mathlib.Core.List.{List}
-use mathlib.Core.Bool.{Bool, true, false, cond}
+use mathlib.Core.Bool.{Bool, true, false, cond, _&&_}
 use lib.ListN.{length, length-map, take}
+use lib.Dec.{leb, ltb, eqb}
 use lib.Seq.{length-take-le}
 use native.Mathlib.Omega.{arith}
-use borrow.Author.Tests.{lt-leb, le-leb, lt-ltb, le-ltb}
+use borrow.Author.Tests.{lt-leb, le-leb, lt-ltb, le-ltb, eq-eqb, ne-eqb}
 use Rattle.hci.specs.Read.{parseAcl}
 use Rattle.hci.specs.declared.read.Acl.{Acl}
 use Rattle.hci.specs.declared.read.AclRead.{AclRead}
@@ -24,7 +25,7 @@ use Rattle.state.specs.declared.Controller.{Controller}
 use Rattle.commands.specs.Parts.{withLinks, withCounters}
 use Rattle.commands.specs.Put.{putLinks, putCounters}
 use Rattle.commands.proofs.Giving.{holds-links, holds-counters}
-use Rattle.calls.specs.Packets.{accepts, headerOf, stored, queued, discarded, dataPacket}
+use Rattle.calls.specs.Packets.{flagsServed, accepts, headerOf, stored, queued, discarded, dataPacket}
 use Rattle.calls.specs.Calls.{held}
 use Rattle.calls.specs.Gives.{PoolAfter, Stored}
 use Rattle.receive.specs.Receiving.{Delivers, putDelivered}
@@ -35,21 +36,41 @@ pub in-use : (s : Links) → length (s .waiting) ≡ 32 → s .«waiting_count»
     → (size : ℕ) (pool : List ℕ) → links.inUse (links.view s size pool) ≡ s .«waiting_count» + s .«in_flight»
 in-use s wide few size pool = simp (length-map, length-take-le (s .«waiting_count») (s .waiting) (omega (arith, wide, few)))
 
+-- the flags of a packet that is for one link, and of one that is for more
+module _ (it : Acl) where
+  pub one-link : it .broadcast ≡ 0 → leb (it .boundary) 2 ≡ flagsServed it
+  one-link e = rw (eq-eqb (it .broadcast) 0 e)
+
+  pub broadcast : (it .broadcast ≡ 0 → ⊥) → eqb (it .broadcast) 0 ≡ flagsServed it
+  broadcast e = rw (ne-eqb (it .broadcast) 0 e)
+
 -- the tests of a packet with this header
 module _ (k : ControllerRow) {header : AclRead} {it : Acl} (m : Model) (read : header ≡ acl.Whole it) where
-  pub no-link : links.has (it .handle) (m .links .connections) ≡ false → accepts k header m ≡ false
-  no-link e = rw (read, e)
+  pub not-served : flagsServed it ≡ false → accepts k header m ≡ false
+  not-served e = rw (read, e)
 
-  module _ (linked : links.has (it .handle) (m .links .connections) ≡ true) where
-    pub too-long : k .«acl_len» < it .len → accepts k header m ≡ false
-    too-long h = rw (read, linked, lt-leb (it .len) (k .«acl_len») h)
+  module _ (served : flagsServed it ≡ true) where
+    -- what is left to test of a packet whose flags are served
+    rest : accepts k header m
+        ≡ links.has (it .handle) (m .links .connections)
+        && (leb (it .len) (k .«acl_len») && ltb (links.inUse (m .links)) (k .«acl_count»))
+    rest = rw (read, served)
 
-    module _ (fits : it .len ≤ k .«acl_len») where
-      pub no-buffer : k .«acl_count» ≤ links.inUse (m .links) → accepts k header m ≡ false
-      no-buffer h = rw (read, linked, le-leb (it .len) (k .«acl_len») fits, le-ltb (links.inUse (m .links)) (k .«acl_count») h)
+    pub no-link : links.has (it .handle) (m .links .connections) ≡ false → accepts k header m ≡ false
+    no-link e = rest ∙ rw e
 
-      pub accepted : links.inUse (m .links) < k .«acl_count» → accepts k header m ≡ true
-      accepted h = rw (read, linked, le-leb (it .len) (k .«acl_len») fits, lt-ltb (links.inUse (m .links)) (k .«acl_count») h)
+    module _ (linked : links.has (it .handle) (m .links .connections) ≡ true) where
+      pub too-long : k .«acl_len» < it .len → accepts k header m ≡ false
+      too-long h = rest ∙ rw (linked, lt-leb (it .len) (k .«acl_len») h)
+
+      module _ (fits : it .len ≤ k .«acl_len») where
+        pub no-buffer : k .«acl_count» ≤ links.inUse (m .links) → accepts k header m ≡ false
+        no-buffer h =
+            rest ∙ rw (linked, le-leb (it .len) (k .«acl_len») fits, le-ltb (links.inUse (m .links)) (k .«acl_count») h)
+
+        pub accepted : links.inUse (m .links) < k .«acl_count» → accepts k header m ≡ true
+        accepted h =
+            rest ∙ rw (linked, le-leb (it .len) (k .«acl_len») fits, lt-ltb (links.inUse (m .links)) (k .«acl_count») h)
 
 module _ {k : ControllerRow} {p : List ℕ} {s : Controller} {pool : List ℕ} (together : StateHolds s k) where
   -- a packet that is not accepted is counted

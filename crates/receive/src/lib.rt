@@ -6,6 +6,7 @@ ghost use mathlib.Core.Path.{_≡_};
 ghost use mathlib.Core.Bool.{true};
 ghost use Rattle.hci.specs.Read.{parseCommand};
 ghost use Rattle.profile.specs.Profile.{answersFit};
+ghost use Rattle.calls.specs.Packets.{flagsServed};
 ghost use Rattle.calls.specs.Calls.{held};
 ghost use Rattle.state.specs.State.{countDropped};
 ghost use Rattle.receive.specs.Receiving.{CanStore, Delivers, putDelivered, parametersOf, Tasks, CommandTask};
@@ -121,6 +122,13 @@ fn dropped(s: Controller) -> Delivered
     }
 }
 
+// Whether a packet with these flags can be queued: it is for one link, so broadcast is 0, and boundary 3 is not served (E2).
+fn flags_served(header: Acl) -> bool
+    ensures { λ r. ⌜ r ≡ flagsServed header ⌝ }
+{
+    header.broadcast == 0 && header.boundary <= 2
+}
+
 // A data packet (Core Vol 4 Part E section 4.1.1). A host that overruns the buffers gets its packet discarded, not a buffer that
 // the device does not have: packets that wait and those in flight, of any link, each hold one.
 pub fn data(s: Controller, profile: ControllerRow, pool: &mut [u8], packet: &[u8]) -> Delivered
@@ -132,6 +140,9 @@ pub fn data(s: Controller, profile: ControllerRow, pool: &mut [u8], packet: &[u8
     let read = Acl::parse(packet);
     match read {
         AclRead::Whole(header) => {
+            if !flags_served(header) {
+                return dropped(s);
+            }
             if !links::has(links, header.handle) {
                 return dropped(s);
             }

@@ -251,14 +251,14 @@ fn print_writers() {
 }
 
 fn print_readers() {
-    let (command, data) = ([0x01, 0x0A, 0x20, 0x01, 0x01], [0x02, 0x01, 0x20, 0x02, 0x00, 0xAA, 0xBB]);
+    let (command, data) = ([0x01, 0x0A, 0x20, 0x01, 0x01], [0x02, 0x01, 0x60, 0x02, 0x00, 0xAA, 0xBB]);
     for count in 3..=5 {
         let c = wegrulsta::read_command(&command[..count]);
         println!("read_command\t{}\t{}\t{:04x}", c.kind, c.len, c.opcode);
     }
     for count in [4, 7] {
         let a = wegrulsta::read_acl(&data[..count]);
-        println!("read_acl\t{}\t{}\t{}\t{}", a.kind, a.boundary, a.handle, a.len);
+        println!("read_acl\t{}\t{}\t{}\t{}\t{}", a.kind, a.boundary, a.broadcast, a.handle, a.len);
     }
     println!("read_acl\t{}", wegrulsta::read_acl(&command).kind);
     for octets in [&[], &data[..], &data[5..]] {

@@ -45,7 +45,7 @@ laid_out!(Bitmap, 65, 1, number 0, map 1);
 laid_out!(Wrote, 16, 8, number 0, written 8);
 laid_out!(MaskHas, 2, 1, number 0, has 1);
 laid_out!(ReadCommand, 4, 2, kind 0, len 1, opcode 2);
-laid_out!(ReadAcl, 6, 2, kind 0, boundary 1, handle 2, len 4);
+laid_out!(ReadAcl, 8, 2, kind 0, boundary 1, broadcast 2, handle 4, len 6);
 laid_out!(PacketLength, 16, 8, kind 0, indicator 1, len 8);
 laid_out!(Stream, 16, 8, ready 0, held 8);
 laid_out!(StreamFed, 24, 8, stream 0, kind 16, indicator 17);

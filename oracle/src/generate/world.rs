@@ -45,7 +45,7 @@ impl World {
 
     /// A data packet around its limits: the length said, the octets that are there, the flags.
     pub fn data(&self, random: &mut Random) -> Vec<u8> {
-        let flags = random.pick(&[0, 0, 0, 1, 2, 3, 4, 15]);
+        let flags = random.pick(&[0, 0, 0, 0, 0, 1, 2, 3, 4, 15]);
         let word = (self.handle(random) & 0x0FFF) | (flags << 12);
         let said = match random.below(8) {
             0 => random.near(&[self.acl_len]),

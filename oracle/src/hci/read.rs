@@ -25,16 +25,23 @@ pub fn acl(plant: Option<Plant>, tape: &mut Tape) -> Compared {
     let mut port = calls::hci::read_acl(packet);
     plant::read_acl(plant, packet, &mut port);
     let expected = match (Acl::parse(packet), hci::acl_parts(packet)) {
-        (Some(read), Some((handle, boundary, data))) => {
+        (Some(read), Some((handle, source_boundary, data))) => {
             let end = 5 + usize::from(port.len);
-            same((read.handle, Some(data)), (handle, packet.get(5..end)))?;
-            raw::ReadAcl { kind: raw::WHOLE, boundary, handle, len: read.len }
+            let (boundary, broadcast) = flags(packet);
+            same((read.handle, source_boundary, Some(data)), (handle, boundary, packet.get(5..end)))?;
+            raw::ReadAcl { kind: raw::WHOLE, boundary, broadcast, handle, len: read.len }
         }
-        (None, None) => raw::ReadAcl { kind: why_not(packet, 5, hci::H4_ACL), boundary: 0, handle: 0, len: 0 },
+        (None, None) => raw::ReadAcl { kind: why_not(packet, 5, hci::H4_ACL), boundary: 0, broadcast: 0, handle: 0, len: 0 },
         (read, parts) => return Err(format!("the source reads {read:?} and {parts:?}")),
     };
     same(expected, port)?;
     Ok((1, 0))
+}
+
+/// Bits 12 and 13 of the word of a data packet, and bits 14 and 15, from its octets: the source's readers give no broadcast.
+fn flags(packet: &[u8]) -> (u8, u8) {
+    let word = u16::from_le_bytes([packet[1], packet[2]]);
+    (((word >> 12) & 3) as u8, (word >> 14) as u8)
 }
 
 /// A packet that isn't read is too short for its header, of another kind, or shorter than its header says.

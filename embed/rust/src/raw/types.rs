@@ -261,12 +261,13 @@ pub struct ReadCommand {
     pub opcode: u16,
 }
 
-/// A packet read as ACL data; `kind` as above.
+/// A packet read as ACL data; `kind` as above. The flags are bits 12 and 13 of the packet's word, and bits 14 and 15.
 #[repr(C)]
 #[derive(Clone, Copy, Debug, PartialEq, Eq)]
 pub struct ReadAcl {
     pub kind: u8,
     pub boundary: u8,
+    pub broadcast: u8,
     pub handle: u16,
     pub len: u16,
 }

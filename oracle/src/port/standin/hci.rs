@@ -59,8 +59,11 @@ pub fn read_command(packet: &[u8]) -> ReadCommand {
 
 pub fn read_acl(packet: &[u8]) -> ReadAcl {
     match (Acl::parse(packet), hci::acl_parts(packet)) {
-        (Some(read), Some((_, boundary, _))) => ReadAcl { kind: raw::WHOLE, boundary, handle: read.handle, len: read.len },
-        _ => ReadAcl { kind: unread(packet, 5, hci::H4_ACL), boundary: 0, handle: 0, len: 0 },
+        (Some(read), Some((_, boundary, _))) => {
+            let broadcast = packet[2] >> 6;
+            ReadAcl { kind: raw::WHOLE, boundary, broadcast, handle: read.handle, len: read.len }
+        }
+        _ => ReadAcl { kind: unread(packet, 5, hci::H4_ACL), boundary: 0, broadcast: 0, handle: 0, len: 0 },
     }
 }
 

@@ -1,7 +1,6 @@
 -- `hci::acl_parts` meets its contract.
 use mathlib.Core.Path.{sym, _∙_}
-use native.Mathlib.Omega.{arith}
-use Rattle.hci.proofs.Readers.{acl-tells, not-read, parts-read, parts-none}
+use Rattle.hci.proofs.Readers.{not-read, parts-read, parts-none}
 use borrow.Author.Needs.{needs}
 use Rattle.hci.proofs.read.acl_parts.Statement.{statement}
 use Rattle.hci.proofs.read.acl_parts.Tie as tie
@@ -12,15 +11,12 @@ parse-requires c κs = search needs
 enum-known-header : tie.Need-enum-known-header
 enum-known-header c = search needs
 
-shared-slice-read-t8 : tie.Need-shared-slice-read-t8
-shared-slice-read-t8 c = omega (arith, acl-tells _ (sym (c .before .before .before .before .parse .ensures) ∙ c .before .before .header .given .1) .present)
-
 returns : tie.Need-returns
-returns c = parts-read _ (sym (c .before .before .before .before .parse .ensures) ∙ c .before .before .header .given .1) (omega (arith, c .before .before .before .before .before .shared-slice-known .given 1))
+returns c = parts-read _ (sym (c .before .before .before .parse .ensures) ∙ c .before .header .given .1)
 
 returns-2 : tie.Need-returns-2
 returns-2 c = parts-none _ (c .before .parse .ensures) (not-read (c .before .parse .result) (c .match .keys2))
 
 pub acl-parts-spec : {M : Type 1} → statement M
 acl-parts-spec =
-    tie.close (tie.spec parse-requires enum-known-header shared-slice-read-t8 returns returns-2)
+    tie.close (tie.spec parse-requires enum-known-header returns returns-2)

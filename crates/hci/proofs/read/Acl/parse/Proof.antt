@@ -1,6 +1,6 @@
 -- `hci::Acl::parse` meets its contract.
 use native.Mathlib.Omega.{arith}
-use Rattle.hci.proofs.Readers.{acl-header, acl-other, acl-short, acl-whole}
+use Rattle.hci.proofs.Readers.{acl-header, acl-other, acl-short, acl-octets}
 use borrow.Author.Needs.{needs}
 use Rattle.hci.proofs.read.Acl.parse.Statement.{statement}
 use Rattle.hci.proofs.read.Acl.parse.Tie as tie
@@ -29,8 +29,22 @@ returns-3 c = acl-short _ (omega arith) (omega arith) (omega arith)
 word-at-requires-2 : tie.Need-word-at-requires-2
 word-at-requires-2 c κs = search needs
 
+shared-slice-read-t6 : tie.Need-shared-slice-read-t6
+shared-slice-read-t6 c = search needs
+
+shared-slice-read-t15 : tie.Need-shared-slice-read-t15
+shared-slice-read-t15 c = search needs
+
 returns-4 : tie.Need-returns-4
-returns-4 c = acl-whole _ (omega arith) (omega arith) (omega arith) (c .word-at2 .ensures) (c .before .before .word-at .ensures)
+returns-4 c =
+    acl-octets
+    _
+    (omega arith)
+    (omega arith)
+    (omega arith)
+    (omega (arith, c .shared-slice-known4 .given 1))
+    (c .before .before .word-at2 .ensures)
+    (c .before .before .before .before .word-at .ensures)
 
 pub parse-spec : {M : Type 1} → statement M
 parse-spec =
@@ -44,4 +58,6 @@ parse-spec =
     cast-if3
     returns-3
     word-at-requires-2
+    shared-slice-read-t6
+    shared-slice-read-t15
     returns-4)
