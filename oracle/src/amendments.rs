@@ -22,6 +22,8 @@ fn flags_served(packet: &[u8]) -> bool {
 #[cfg(test)]
 mod tests {
     use super::*;
+    use crate::ble::profile::BleProfile;
+    use crate::lines::bench_profile;
 
     #[test]
     fn flags() {
@@ -30,6 +32,18 @@ mod tests {
             let dropped = dropped_by_flags(&mut c, &[2, 1, high << 4, 0, 0]);
             assert_eq!(dropped, ![0, 1, 2].contains(&high), "{high}");
             assert_eq!(c.acl_dropped, u64::from(dropped));
+        }
+    }
+
+    /// What docs/DIFFERENCES.md says of the source by itself: it queues such a packet.
+    #[test]
+    fn the_source_takes_any_flags() {
+        BleProfile::set(bench_profile());
+        for high in [3, 4, 8, 12, 15u8] {
+            let mut c = Controller::default();
+            c.open_connection(1, 24, 0, 42);
+            let events = c.on_packet([0; 6], &[2, 1, high << 4, 0, 0], &mut |octets| octets.fill(0));
+            assert_eq!((events.len(), c.acl_packets, c.acl_dropped), (0, 1, 0), "{high}");
         }
     }
 
