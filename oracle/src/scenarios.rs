@@ -2,6 +2,7 @@
 use crate::ble::profile::ControllerRow;
 use crate::call::Call;
 use crate::generate::{command_packet, modelled_setup};
+use crate::random::Random;
 use crate::setup::bench_controller;
 use crate::trial::{kind, put_record, Trial, ROOM};
 
@@ -153,9 +154,10 @@ fn words(first: u16, second: u16) -> Vec<u8> {
     [first.to_le_bytes(), second.to_le_bytes()].concat()
 }
 
-/// An address type and an address.
-fn entry(n: u8) -> [u8; 7] {
-    [0, n, n, n, n, n, n]
+/// An address type and an address, which is random and static: another for each number, and as unlike as those of devices are.
+fn entry(number: u8) -> [u8; 7] {
+    let [a, b, c, d, e, f] = Random::of_run(6, u64::from(number)).octets();
+    [1, a, b, c, d, e, f | 0xC0]
 }
 
 #[cfg(test)]

@@ -5,28 +5,22 @@ use native.Mathlib.Nat.{le-of-suc-le-suc, add-comm, add-zero, suc-mul, zero-mul,
 use native.Mathlib.Omega.{arith}
 use native.Mathlib.Numerals.{add-one}
 use mathlib.Core.Bool.{Bool, true, false}
-use mathlib.Core.Path.{_≡_, refl, sym, ap, _∙_}
-use mathlib.Core.List.{List, [], _∷_, _++_, map, map-append, append-assoc, append-nil}
+use mathlib.Core.Path.{_≡_, sym, ap, _∙_}
+use mathlib.Core.List.{List, [], _∷_, _++_, append-assoc, append-nil}
+use lib.Dec.{ltb}
 use lib.ListN.{length, take, drop, set, length-drop, length-set}
-use lib.Seq.{take-all, take-at, drop-append-add, drop-drop, length-take-le, take-set-le, take-set-lt, drop-set-lt}
+use lib.Seq.{take-all, drop-append-add, drop-drop, length-take-le, take-set-le, take-set-lt, drop-set-lt}
 use lib.Seq.{drop-set-add, take-suc-set}
 use borrow.Rule.Slice.PartMut.{midOf, putMid}
-use Rattle.lists.specs.Lists.{firstAt, updateFirst, chunks}
+use Rattle.lists.specs.Lists.{firstAt, any, updateFirst, chunks}
 use Rattle.lists.proofs.Search.{Searching, first-here, first-skip, first-end}
+use Rattle.lists.proofs.Tests.{any-first}
 use Rattle.lists.proofs.Update.{update-at}
-use Rattle.lists.proofs.Copying.{take-push}
-use Rattle.lists.proofs.Chunks.{length-chunks, getD-chunks, chunks-append, chunks-take, chunks-add, chunks-push}
+use Rattle.lists.proofs.Chunks.{length-chunks, getD-chunks, chunks-append, chunks-take, chunks-add, take-chunks, chunks-push}
 use Rattle.octets.specs.Octets.{splice, Put}
 use Rattle.octets.proofs.Writing.{put-part}
 use Rattle.filters.specs.Filters.{withMode}
 use Rattle.filters.specs.Keys.{withoutPlace}
-
--- a loop that stores a number of each entry, which f gives: those of the first i are stored, and the next stands at `at`
-pub record Gathering (w n : ℕ) (f : List ℕ → ℕ) (l : List ℕ) (size : ℕ) (xs : List ℕ) (i at : ℕ) : Type 0 where
-  pub below : i ≤ n
-  pub stands : at ≡ i * w
-  pub long : length xs ≡ size
-  pub gathered : take i xs ≡ map f (chunks w i l)
 
 module _ (w : ℕ) where
   -- ---- where entries stand: the one at i ends within the first n, and the next begins behind it
@@ -66,6 +60,10 @@ module _ (w : ℕ) where
     pub entry-end : (i : ℕ) → Searching p (chunks w n l) i → i ≡ n → i ≡ firstAt p (chunks w n l)
     entry-end i inv e = e ∙ (rw whole at (first-end (chunks w n l) n p i (rw whole inv) e))
 
+    -- the place that is found is below n exactly if there is such an entry
+    pub entry-found : (i : ℕ) → i ≡ firstAt p (chunks w n l) → ltb i n ≡ any p (chunks w n l)
+    entry-found i e = rw e (sym (rw length-chunks at (any-first p (chunks w n l))))
+
   -- ---- one entry more, written behind the first n
   pub splice-push : (n : ℕ) (l e : List ℕ) → length e ≡ w → (n + 1) * w ≤ length l
       → chunks w (n + 1) (splice l (n * w) e) ≡ chunks w n l ++ (e ∷ [])
@@ -85,8 +83,7 @@ module _ (w : ℕ) where
       let rest = drop w (drop (p * w) l) in
       let room : p * w + (w + m * w) ≤ length l = omega (arith, add-mul p (suc m) w, suc-mul m w) in
       let fits-rest : m * w ≤ length rest = simp (drop-drop, length-drop) (omega arith) in
-      let kept : take p (chunks w (p + suc m) l) ≡ chunks w p l =
-      rw (chunks-add w p (suc m) l) (take-at (chunks w p l) _ p (length-chunks w p l)) in
+      let kept : take p (chunks w (p + suc m) l) ≡ chunks w p l = take-chunks w p (suc m) l in
       let follow : drop (suc p) (chunks w (p + suc m) l) ≡ chunks w m rest =
       rw (chunks-add w p (suc m) l, ← add-one p)
       (rw (length-chunks w p l) at (drop-append-add (chunks w p l) (take w (drop (p * w) l) ∷ chunks w m rest) 1)) in
@@ -136,24 +133,3 @@ store-mode p n l i mode e h fits =
     chunks-store 8 n l i 7 mode (omega arith) h
     ∙ rw (set-last 7 entry mode long, ← getD-chunks 8 n l i [] h, e)
     (sym (update-at p (withMode mode) (chunks 8 n l) [] (omega (arith, length-chunks 8 n l))))
-
--- ---- the loop that stores a number of each entry: its first, next and last turn
-module _ {w n : ℕ} {f : List ℕ → ℕ} {l : List ℕ} {size : ℕ} where
-  pub gather-begin : {xs : List ℕ} → length xs ≡ size → Gathering w n f l size xs 0 0
-  unfolding chunks
-  gather-begin e = record { below = omega arith; stands = sym (zero-mul w); long = e; gathered = refl }
-
-  pub gather-turn : {xs : List ℕ} {i at v : ℕ} → Gathering w n f l size xs i at → v ≡ f (take w (drop (i * w) l))
-      → i < n → n ≤ size → Gathering w n f l size (set xs i v) (i + 1) (at + w)
-  unfolding chunks
-  gather-turn {xs} {i} {at} {v} g e h fits = record {
-    below = omega arith;
-    stands = next-at w i at (g .stands);
-    long = rw length-set (g .long);
-    gathered = rw (take-push xs i v (omega arith), g .gathered, chunks-add w i 1 l, map-append, e);
-  }
-
-  pub gather-end : {xs : List ℕ} {i at : ℕ} → Gathering w n f l size xs i at → n ≤ i → take n xs ≡ map f (chunks w n l)
-  gather-end {xs} {i} g h =
-      let e : n ≡ i = omega arith in
-      rw e (g .gathered)

@@ -1,13 +1,12 @@
--- An entry's type and address against the number and the sum that the code compares: octets below 256 are told apart by
--- their number, and equal ones have equal sums. For the searches of this crate.
-use Prim.Native.Nat.{ℕ, _+_, _-_, _*_, _≤_, _<_}
+-- An entry's type and address against the numbers that the code compares: octets below 256 are told apart by their number,
+-- and equal ones have equal lowest octets. For the searches of this crate.
+use Prim.Native.Nat.{ℕ, _+_, _*_, _/_, _%_, _≤_, _<_}
 use native.Mathlib.Decide.{decLt}
 use native.Mathlib.Nat.{zero-add, zero-mul}
 use native.Mathlib.Omega.{arith}
-use mathlib.Core.Bool.{true}
 use mathlib.Core.Path.{_≡_, sym, ap, ap₂, _∙_}
 use mathlib.Core.List.{List, []}
-use lib.Dec.{eqb, lit<}
+use lib.Dec.{eqb}
 use lib.ListN.{length, take, drop, getD, length-take, length-drop, take-append-drop, List·getD-eq-default}
 use lib.Seq.{getD-take, getD-drop, take-all, take-take, length-take-le}
 use mir.Syntax.{w8}
@@ -18,12 +17,11 @@ use Rattle.lists.specs.Lists.{firstAt, keyed, distinct, sameList, chunks}
 use Rattle.lists.proofs.Search.{Searching}
 use Rattle.lists.proofs.Same.{same-equal, same-self, eqb-sym}
 use Rattle.lists.proofs.Chunks.{length-chunks, getD-chunks}
-use Rattle.lists.proofs.Distinct.{keys-from}
-use Rattle.lists.proofs.Agree.{first-agree, distinct-agree, distinct-by-key}
+use Rattle.lists.proofs.Agree.{first-agree, distinct-agree}
 use Rattle.octets.specs.Octets.{octet, le, numberAt}
 use Rattle.octets.proofs.Numbers.{le-number, number-after, number-front}
 use Rattle.filters.specs.Filters.{hasIdentity, identitiesDiffer, entriesDiffer}
-use Rattle.filters.specs.Keys.{keyOf, sumOf}
+use Rattle.filters.specs.Keys.{keyOf, lowOf}
 use Rattle.filters.proofs.Flat.{within, next-at, entry-here, entry-skip, entry-end}
 
 -- ---- octets below 256, in a list and in a part of it
@@ -65,17 +63,19 @@ same-key = same-number 7
 pub number-drop : (w : ℕ) (l : List ℕ) (at i : ℕ) → at ≤ length l → numberAt w l (at + i) ≡ numberAt w (drop at l) i
 number-drop w l at i h = rw (take-append-drop, length-take-le at l h) at (number-after w (take at l) (drop at l) i)
 
--- the key is that of the first seven octets, and so is the sum
+-- the key is that of the first seven octets
 pub key-front : (x : List ℕ) → 7 ≤ length x → keyOf (take 7 x) ≡ keyOf x
 unfolding keyOf
 key-front x h =
     sym (rw take-append-drop at (number-front 7 (take 7 x) (drop 7 x) 0 (omega (arith, length-take-le 7 x h))))
 
-pub sum-front : (x : List ℕ) → sumOf (take 7 x) ≡ sumOf x
-unfolding sumOf
-sum-front x =
-    let at : (k : ℕ) → k < 7 → octet (take 7 x) k ≡ octet x k = λ k h. getD-take 7 x k 0 h in
-    rw (at 0 (lit< tt), at 1 (lit< tt), at 2 (lit< tt), at 3 (lit< tt), at 4 (lit< tt), at 5 (lit< tt), at 6 (lit< tt))
+-- the lowest octets of the address are a part of the key, so equal keys have equal ones
+low-part : (x : List ℕ) → Octets x → lowOf x ≡ keyOf x / 256 % 4294967296
+unfolding keyOf lowOf
+low-part x below = omega (arith, below 0 .fits, below 1 .fits, below 2 .fits, below 3 .fits, below 4 .fits)
+
+pub same-low : (a b : List ℕ) → Octets a → Octets b → keyOf a ≡ keyOf b → lowOf a ≡ lowOf b
+same-low a b oa ob e = low-part a oa ∙ ap (λ (k : ℕ). k / 256 % 4294967296) e ∙ sym (low-part b ob)
 
 -- ---- an entry with the key of `identity` is one with that identity
 pub key-identity : (identity entry : List ℕ) → length identity ≡ 7 → 7 ≤ length entry → Octets identity → Octets entry
@@ -100,7 +100,7 @@ module _ (w n : ℕ) (l : List ℕ) (wide : 7 ≤ w) (fits : n * w ≤ length l)
   pub entry-octets : Octets l → (i : ℕ) → i < n → Octets (getD (chunks w n l) i [])
   entry-octets o i h = rw (getD-chunks w n l i [] h) (octets-take w (drop (i * w) l) (octets-drop (i * w) l o))
 
-  -- the number and the sum that are read where an entry stands are the entry's
+  -- the numbers that are read where an entry stands are the entry's
   pub entry-key : (i : ℕ) → i < n → keyOf (drop (i * w) l) ≡ keyOf (take w (drop (i * w) l))
   entry-key i h =
       let x = drop (i * w) l in
@@ -108,10 +108,11 @@ module _ (w n : ℕ) (l : List ℕ) (wide : 7 ≤ w) (fits : n * w ≤ length l)
       sym (key-front x (omega arith))
       ∙ rw (← take-take 7 w x wide) (key-front (take w x) (omega (arith, length-take-le w x long)))
 
-  pub entry-sum : (i : ℕ) → sumOf (drop (i * w) l) ≡ sumOf (take w (drop (i * w) l))
-  entry-sum i =
+  pub entry-low : Octets l → (i : ℕ) → i < n → lowOf (drop (i * w) l) ≡ lowOf (take w (drop (i * w) l))
+  entry-low o i h =
       let x = drop (i * w) l in
-      sym (sum-front x) ∙ rw (← take-take 7 w x wide) (sum-front (take w x))
+      let below = octets-drop (i * w) l o in
+      same-low x (take w x) below (octets-take w x below) (entry-key i h)
 
   -- ---- the loop that looks for a key: its first turn, a turn that finds it, one that goes on, and the end
   pub seek-begin : (key : ℕ) → Seeking w n l key 0 0
@@ -172,21 +173,3 @@ module _ (n : ℕ) (l : List ℕ) (fits : n * 7 ≤ length l) where
   differ-entry =
       distinct-agree _ _ (chunks 7 n l) []
       (λ i j h b. ap₂ sameList (entry-whole i (omega arith)) (entry-whole j b))
-
--- where the sums differ, so do the entries
-pub differ-sum : (l : List (List ℕ)) → distinct sumOf l ≡ true → identitiesDiffer l ≡ true
-differ-sum l =
-    distinct-by-key sumOf _ l []
-    (λ a b e. sym (sum-front a) ∙ ap sumOf (same-equal (take 7 a) (take 7 b) e) ∙ sum-front b)
-
--- the first n of some numbers differ where none is equal to the one `apart` places behind it, for each `apart` below n
-pub differ-apart : (xs : List ℕ) (n m : ℕ)
-    → ((apart : ℕ) → 1 ≤ apart → apart < n → (i : ℕ) → i < m → getD xs i 0 ≡ getD xs (i + apart) 0 → ⊥)
-    → n ≤ m → n ≤ length xs → distinct (λ (k : ℕ). k) (take n xs) ≡ true
-differ-apart xs n m h le fits =
-    keys-from (λ (k : ℕ). k) (take n xs) 0
-    (λ i j lt b e.
-    let bound : j < n = omega (arith, length-take-le n xs fits) in
-    let behind : i + (j - i) ≡ j = omega arith in
-    h (j - i) (omega arith) (omega arith) i (omega arith)
-    (rw (behind, ← getD-take n xs j 0 bound, ← getD-take n xs i 0 (omega arith)) e))

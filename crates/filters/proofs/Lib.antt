@@ -2,3 +2,4 @@
 pub mod Flat
 pub mod Identities
 pub mod Kept
+pub mod Differing

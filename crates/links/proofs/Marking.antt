@@ -1,41 +1,12 @@
--- A loop that marks each key it meets, of keys below 256: what the marks say, and a turn. The keys are the places of the waiting
--- packets, or the lowest octets of the handles, which tell that the handles differ.
-use Prim.Native.Nat.{ℕ, _+_, _%_, _<_}
+-- The lowest octets of the handles, which a loop marks, tell that the handles differ.
+use Prim.Native.Nat.{ℕ, _%_}
 use native.Mathlib.Omega.{arith}
-use mathlib.Core.Bool.{Bool, true, false, or-true, or-false}
-use mathlib.Core.Path.{_≡_, sym, ap, _∙_}
-use mathlib.Core.List.{List, []}
-use lib.Dec.{eqb}
-use lib.ListN.{length, take, getD, set, replicate, getD-replicate}
-use lib.Seq.{getD-set-same, getD-set-other}
-use borrow.Author.Tests.{eqb-true, eqb-false}
-use borrow.Table.Steps.{cases}
-use Rattle.lists.specs.Lists.{any, keyed, distinct}
+use mathlib.Core.Bool.{true}
+use mathlib.Core.Path.{_≡_, ap}
+use mathlib.Core.List.{List}
+use Rattle.lists.specs.Lists.{distinct}
 use Rattle.links.specs.Gather.{itself}
 use Rattle.lists.proofs.Distinct.{keys-differ, keys-from}
-use Rattle.lists.proofs.Prefix.{any-more}
-
-module _ {A : Type 0} (f : A → ℕ) where
-  -- met marks the keys of xs, which f gives
-  abbrev pub Marks : List Bool → List A → Type 0
-  Marks met xs = (k : ℕ) → k < 256 → getD met k false ≡ any (keyed f k) xs
-
-  pub marks-none : Marks (replicate 256 false) []
-  unfolding any
-  marks-none k b = getD-replicate 256 k false false b
-
-  pub marks-more : (met : List Bool) (xs : List A) (i : ℕ) (d : A) → Marks met (take i xs) → length met ≡ 256
-      → f (getD xs i d) < 256 → i < length xs → Marks (set met (f (getD xs i d)) true) (take (i + 1) xs)
-  unfolding any
-  marks-more met xs i d m len small h k b =
-      let new = f (getD xs i d) in
-      rw (any-more (keyed f k) xs i d h)
-      (cases (eqb new k)
-      (λ e.
-      let same = eqb-true new k e in
-      rw (e, or-true, ← same) (getD-set-same met new true false (omega arith)))
-      (λ e.
-      rw (e, or-false) (getD-set-other met new k true false (λ q. eqb-false new k e (sym q)) ∙ m k b)))
 
 abbrev pub lowestOctet : ℕ → ℕ
 lowestOctet x = x % 256

@@ -3,7 +3,7 @@
 use mathlib.Core.Path.{_≡_, refl, sym, ap, _∙_}
 use Prim.Native.Nat.{ℕ, _+_, _≤_, _<_}
 use mathlib.Core.List.{List}
-use mathlib.Core.Bool.{Bool, true, false, cond, _&&_}
+use mathlib.Core.Bool.{Bool, true, false, cond, _&&_, and-assoc}
 use lib.ListN.{length, length-map, take}
 use lib.Dec.{leb, ltb, eqb}
 use lib.Seq.{length-take-le}
@@ -46,31 +46,29 @@ module _ (it : Acl) where
 
 -- the tests of a packet with this header
 module _ (k : ControllerRow) {header : AclRead} {it : Acl} (m : Model) (read : header ≡ acl.Whole it) where
-  pub not-served : flagsServed it ≡ false → accepts k header m ≡ false
-  not-served e = rw (read, e)
+  -- whether it is for a link that is there
+  abbrev linked : Bool
+  linked = flagsServed it && links.has (it .handle) (m .links .connections)
 
-  module _ (served : flagsServed it ≡ true) where
-    -- what is left to test of a packet whose flags are served
-    rest : accepts k header m
-        ≡ links.has (it .handle) (m .links .connections)
-        && (leb (it .len) (k .«acl_len») && ltb (links.inUse (m .links)) (k .«acl_count»))
-    rest = rw (read, served)
+  -- the tests behind that
+  rest : accepts k header m ≡ linked && (leb (it .len) (k .«acl_len») && ltb (links.inUse (m .links)) (k .«acl_count»))
+  rest = rw read (sym (and-assoc (flagsServed it) _ _))
 
-    pub no-link : links.has (it .handle) (m .links .connections) ≡ false → accepts k header m ≡ false
-    no-link e = rest ∙ rw e
+  pub no-link : linked ≡ false → accepts k header m ≡ false
+  no-link e = rest ∙ rw e
 
-    module _ (linked : links.has (it .handle) (m .links .connections) ≡ true) where
-      pub too-long : k .«acl_len» < it .len → accepts k header m ≡ false
-      too-long h = rest ∙ rw (linked, lt-leb (it .len) (k .«acl_len») h)
+  module _ (e : linked ≡ true) where
+    pub too-long : k .«acl_len» < it .len → accepts k header m ≡ false
+    too-long h = rest ∙ rw (e, lt-leb (it .len) (k .«acl_len») h)
 
-      module _ (fits : it .len ≤ k .«acl_len») where
-        pub no-buffer : k .«acl_count» ≤ links.inUse (m .links) → accepts k header m ≡ false
-        no-buffer h =
-            rest ∙ rw (linked, le-leb (it .len) (k .«acl_len») fits, le-ltb (links.inUse (m .links)) (k .«acl_count») h)
+    module _ (fits : it .len ≤ k .«acl_len») where
+      pub no-buffer : k .«acl_count» ≤ links.inUse (m .links) → accepts k header m ≡ false
+      no-buffer h =
+          rest ∙ rw (e, le-leb (it .len) (k .«acl_len») fits, le-ltb (links.inUse (m .links)) (k .«acl_count») h)
 
-        pub accepted : links.inUse (m .links) < k .«acl_count» → accepts k header m ≡ true
-        accepted h =
-            rest ∙ rw (linked, le-leb (it .len) (k .«acl_len») fits, lt-ltb (links.inUse (m .links)) (k .«acl_count») h)
+      pub accepted : links.inUse (m .links) < k .«acl_count» → accepts k header m ≡ true
+      accepted h =
+          rest ∙ rw (e, le-leb (it .len) (k .«acl_len») fits, lt-ltb (links.inUse (m .links)) (k .«acl_count») h)
 
 module _ {k : ControllerRow} {p : List ℕ} {s : Controller} {pool : List ℕ} (together : StateHolds s k) where
   -- a packet that is not accepted is counted

@@ -3,9 +3,11 @@
 // carried out. Data gives the parts of the state that it changes, and the state is put together where the call returns: were the
 // whole state to go through, it would be copied more often (docs/SPEED.md). Contracts cite `specs/Receiving.antt`.
 ghost use mathlib.Core.Path.{_≡_};
-ghost use mathlib.Core.Bool.{true};
+ghost use mathlib.Core.Bool.{true, _&&_};
+ghost use Prim.Native.Nat.{_≤_};
 ghost use Rattle.hci.specs.Read.{parseCommand};
 ghost use Rattle.profile.specs.Profile.{answersFit};
+ghost use Rattle.links.specs.Links.{has, opened};
 ghost use Rattle.calls.specs.Packets.{flagsServed};
 ghost use Rattle.calls.specs.Calls.{held};
 ghost use Rattle.state.specs.State.{countDropped};
@@ -129,6 +131,15 @@ fn flags_served(header: Acl) -> bool
     header.broadcast == 0 && header.boundary <= 2
 }
 
+// Whether a packet is for a link that is there, by its flags and then by its handle. One test, and not two with a return behind
+// each: the compiler would leave `enqueue` out of line then, and hand it a copy of the links (docs/SPEED.md).
+fn has_link(header: Acl, links: Links) -> bool
+    requires { ⌜ links .count ≤ 16 ⌝ }
+    ensures { λ r. ⌜ r ≡ (flagsServed header && has (header .handle) (opened links)) ⌝ }
+{
+    flags_served(header) && links::has(links, header.handle)
+}
+
 // A data packet (Core Vol 4 Part E section 4.1.1). A host that overruns the buffers gets its packet discarded, not a buffer that
 // the device does not have: packets that wait and those in flight, of any link, each hold one.
 pub fn data(s: Controller, profile: ControllerRow, pool: &mut [u8], packet: &[u8]) -> Delivered
@@ -140,10 +151,7 @@ pub fn data(s: Controller, profile: ControllerRow, pool: &mut [u8], packet: &[u8
     let read = Acl::parse(packet);
     match read {
         AclRead::Whole(header) => {
-            if !flags_served(header) {
-                return dropped(s);
-            }
-            if !links::has(links, header.handle) {
+            if !has_link(header, links) {
                 return dropped(s);
             }
             if header.len > profile.acl_len {

@@ -1,53 +1,100 @@
--- `filters::differ::entries_differ` meets its contract: by the sums where they differ, else by the keys.
-use Prim.Native.Nat.{ℕ}
-use mathlib.Core.Bool.{true}
-use mathlib.Core.List.{map}
-use mathlib.Core.Path.{_≡_, sym, ap, _∙_}
+-- `filters::differ::entries_differ` meets its contract: the first i entries differ and their marks are met.
+use Prim.Native.Nat.{_-_}
+use native.Mathlib.Omega.{arith}
+use mathlib.Core.Logic.{⊎-elim}
+use mathlib.Core.Path.{sym, _∙_}
 use borrow.Author.Needs.{needs}
-use Rattle.lists.specs.Lists.{chunks, distinct}
-use Rattle.lists.proofs.Distinct.{keys-map}
-use Rattle.filters.specs.Keys.{keyOf, sumOf}
-use Rattle.filters.proofs.Identities.{differ-key, differ-sum}
+use Rattle.filters.proofs.Flat.{within}
+use Rattle.filters.proofs.Differing.{Differing, differ-begin, unmet-none, differ-turn, differ-stop, differ-end}
 use Rattle.filters.proofs.differ.entries_differ.Statement.{statement}
 use Rattle.filters.proofs.differ.entries_differ.Tie as tie
 
-sums-of-requires : tie.Need-sums-of-requires
-sums-of-requires c κs = search needs
+abbrev Inv-loop : tie.InvT-loop
+Inv-loop octets width n met₀ i₀ at₀ met i at = Differing width n octets met i at
 
-sums-differ-requires : tie.Need-sums-differ-requires
-sums-differ-requires c κs = search needs
+abbrev μ-loop : tie.MeasureT-loop
+μ-loop octets width n met₀ i₀ at₀ met i at = n - i
 
-returns : tie.Need-returns
+loop-holds : tie.Need-loop-holds Inv-loop μ-loop
+loop-holds c =
+    let s = c .before in
+    differ-begin (s .args .width) (s .args .n) (s .args .octets .now) (s .pre .0) (s .pre .1) (c .shared-slice-known .given)
+
+low-at-requires : tie.Need-low-at-requires Inv-loop μ-loop
+low-at-requires c κs =
+    let a = c .before .before .before .args in
+    omega (arith, within (a .width) (a .n) (c .before .loop .i) (c .loop-test .taken))
+
+cast-mark : tie.Need-cast-mark Inv-loop μ-loop
+cast-mark c = search needs
+
+array-read-if1 : tie.Need-array-read-if1 Inv-loop μ-loop
+array-read-if1 c = search needs
+
+stands-before-requires : tie.Need-stands-before-requires Inv-loop μ-loop
+stands-before-requires c κs =
+    let a = c .before .before .before .before .before .args in
+    let inside = within (a .width) (a .n) (c .before .before .before .loop .i) (c .before .before .loop-test .taken) in
+    (omega arith, omega (arith, inside), omega (arith, inside))
+
+returns : tie.Need-returns Inv-loop μ-loop
 returns c =
+    let s = c .before .before .before .before .before .before .before in
+    let below = c .before .before .before .before .before .before .shared-slice-known .given in
+    let l = c .before .before .before .before .before .loop in
+    differ-stop (s .args .width) (s .args .n) (s .args .octets .now) (s .pre .0) (s .pre .1) below (l .inv)
+    (c .before .before .before .low-at .ensures) (c .before .before .before .before .loop-test .taken)
+    (c .before .stands-before .ensures) (c .if2 .taken)
+
+array-write-met : tie.Need-array-write-met Inv-loop μ-loop
+array-write-met c = search needs
+
+add-i : tie.Need-add-i Inv-loop μ-loop
+add-i c = search needs
+
+add-at : tie.Need-add-at Inv-loop μ-loop
+add-at c =
+    let a = c .before .before .before .before .before .args in
+    omega (arith, within (a .width) (a .n) (c .before .before .before .loop .i) (c .before .before .loop-test .taken))
+
+loop-less : tie.Need-loop-less Inv-loop μ-loop
+loop-less c = search needs
+
+loop-again : tie.Need-loop-again Inv-loop μ-loop
+loop-again c =
     let s = c .before .before .before .before .before in
-    let entries = chunks (s .args .width) (s .args .n) (s .args .octets .now) in
-    let differ : distinct (λ (k : ℕ). k) (map sumOf entries) ≡ true =
-    rw (← c .before .before .before .sums-of .ensures) (c .before .sums-differ .ensures (c .if1 .taken)) in
-    sym (differ-sum entries (keys-map sumOf entries ∙ differ))
+    let w = s .args .width in
+    let n = s .args .n in
+    let octets = s .args .octets .now in
+    let below = c .before .before .before .before .shared-slice-known .given in
+    let g = c .before .before .before .loop .inv in
+    let read = c .before .low-at .ensures in
+    let more = c .before .before .loop-test .taken in
+    differ-turn w n octets (s .pre .0) (s .pre .1) below g read more
+    (⊎-elim (λ m. sym (m .1 .ensures) ∙ m .2 .left)
+    (λ m. unmet-none w n octets (s .pre .0) (s .pre .1) below g read more (m .left)) (c .if1 .came))
 
-keys-of-requires : tie.Need-keys-of-requires
-keys-of-requires c κs = search needs
-
-keys-differ-requires : tie.Need-keys-differ-requires
-keys-differ-requires c κs = search needs
-
-returns-2 : tie.Need-returns-2
+returns-2 : tie.Need-returns-2 Inv-loop μ-loop
 returns-2 c =
-    let s = c .before .before .before .before .before .before .before .before in
-    let entries = chunks (s .args .width) (s .args .n) (s .args .octets .now) in
-    let below = c .before .before .before .before .before .before .before .shared-slice-known .given in
-    c .keys-differ .ensures
-    ∙ ap (distinct (λ (k : ℕ). k)) (c .before .before .keys-of .ensures)
-    ∙ sym (keys-map keyOf entries)
-    ∙ differ-key (s .args .width) (s .args .n) (s .args .octets .now) (s .pre .0) (s .pre .1) below
+    let s = c .before .before .before in
+    differ-end (s .args .width) (s .args .n) (s .args .octets .now) (s .pre .0) (s .pre .1)
+    (c .before .before .shared-slice-known .given) (c .before .loop .inv) (omega arith)
 
 pub entries-differ-spec : {M : Type 1} → statement M
 entries-differ-spec =
     tie.close
     (tie.spec
-    sums-of-requires
-    sums-differ-requires
+    Inv-loop
+    μ-loop
+    loop-holds
+    low-at-requires
+    cast-mark
+    array-read-if1
+    stands-before-requires
     returns
-    keys-of-requires
-    keys-differ-requires
+    array-write-met
+    add-i
+    add-at
+    loop-less
+    loop-again
     returns-2)

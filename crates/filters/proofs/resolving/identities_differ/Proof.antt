@@ -19,7 +19,7 @@ slice-aggregate-entries-differ c = search needs
 entries-differ-requires : tie.Need-entries-differ-requires
 entries-differ-requires c κs =
     let long : length (c .before .before .before .args .list .octets) ≡ 128 = search needs in
-    (omega arith, omega arith, omega arith)
+    (omega arith, omega arith)
 
 returns-2 : tie.Need-returns-2
 returns-2 c = search needs

@@ -3,7 +3,8 @@ use mathlib.Core.Bool.{true, true≢false}
 use lib.ListN.{length-set, length, take}
 use Rattle.lists.specs.Lists.{distinctBy, distinct}
 use Rattle.lists.proofs.Prefix.{differ-more}
-use Rattle.links.proofs.Marking.{Marks, marks-none, marks-more, lowestOctet, octets-differ}
+use Rattle.lists.proofs.Marking.{Marks, marks-none, marks-more}
+use Rattle.links.proofs.Marking.{lowestOctet, octets-differ}
 use Prim.Native.Nat.{_≤_, _-_}
 use mathlib.Core.Path.{_≡_, refl, sym, _∙_}
 use native.Mathlib.Omega.{arith}
@@ -15,7 +16,7 @@ abbrev Inv-loop : tie.InvT-loop
 Inv-loop handles n met₀ i₀ met i =
     (i ≤ n)
     × (length met ≡ 256)
-    × Marks lowestOctet met (take i handles)
+    × Marks 256 lowestOctet met (take i handles)
     × (distinct lowestOctet (take i handles) ≡ true)
 
 abbrev μ-loop : tie.MeasureT-loop
@@ -23,7 +24,7 @@ abbrev μ-loop : tie.MeasureT-loop
 
 loop-holds : tie.Need-loop-holds Inv-loop μ-loop
 unfolding distinctBy
-loop-holds c = (search needs, search needs, marks-none lowestOctet, refl)
+loop-holds c = (search needs, search needs, marks-none 256 lowestOctet, refl)
 
 mul-low : tie.Need-mul-low Inv-loop μ-loop
 mul-low c = search needs
@@ -56,7 +57,7 @@ loop-again c =
     let new = sym (l .inv .2 _ (search needs)) ∙ c .if1 .left in (
       search needs,
       simp length-set (l .inv .1),
-      marks-more lowestOctet (l .met) (s .handles .now) (l .i) 0 (l .inv .2) (l .inv .1) (search needs) (omega arith),
+      marks-more 256 lowestOctet (l .met) (s .handles .now) (l .i) 0 (l .inv .2) (l .inv .1) (search needs) (omega arith),
       differ-more lowestOctet (s .handles .now) (l .i) 0 (l .inv .3) new (omega arith),
     )
 

@@ -9,7 +9,7 @@ use Rattle.links.specs.declared.Connection.{Connection}
 use Rattle.links.specs.Holding.{placeOf}
 use Rattle.links.specs.Gather.{gathered, packetHolds}
 use Rattle.lists.proofs.Prefix.{all-more, differ-more, differ-fails, all-not}
-use Rattle.links.proofs.Marking.{Marks, marks-none, marks-more}
+use Rattle.lists.proofs.Marking.{Marks, marks-none, marks-more}
 use Prim.Native.Nat.{ℕ, _≤_, _-_}
 use mathlib.Core.Path.{_≡_, refl, sym, _∙_}
 use mathlib.Core.List.{List}
@@ -22,7 +22,7 @@ abbrev Inv-loop : tie.InvT-loop
 Inv-loop n handles places size waiting met₀ i₀ met i =
     (i ≤ n)
     × (length met ≡ 256)
-    × Marks placeOf met (take i waiting)
+    × Marks 256 placeOf met (take i waiting)
     × (distinct placeOf (take i waiting) ≡ true)
     × ((k : ℕ) (cs : List Connection) → handles ≡ gathered k cs → all (packetHolds places size (take k cs))
     (take i waiting) ≡ true)
@@ -32,7 +32,7 @@ abbrev μ-loop : tie.MeasureT-loop
 
 loop-holds : tie.Need-loop-holds Inv-loop μ-loop
 unfolding all distinctBy
-loop-holds c = (search needs, search needs, marks-none placeOf, refl, λ k cs e. refl)
+loop-holds c = (search needs, search needs, marks-none 256 placeOf, refl, λ k cs e. refl)
 
 mul-w : tie.Need-mul-w Inv-loop μ-loop
 mul-w c = search needs
@@ -86,7 +86,7 @@ loop-again c =
     let new = sym (l .inv .2 _ (search needs)) ∙ c .if2 .left in (
       search needs,
       simp length-set (l .inv .1),
-      marks-more placeOf (l .met) (s .t1) (l .i) _ (l .inv .2) (l .inv .1) (search needs) (omega arith),
+      marks-more 256 placeOf (l .met) (s .t1) (l .i) _ (l .inv .2) (l .inv .1) (search needs) (omega arith),
       differ-more placeOf (s .t1) (l .i) _ (l .inv .3) new (omega arith),
       λ k cs e.
           let yes = sym (c .before .before .before .packet-holds .ensures k cs e) ∙ not-false _

@@ -1,11 +1,10 @@
 -- `filters::accept::AcceptList::contains` meets its contract.
 use native.Mathlib.Omega.{arith}
-use mathlib.Core.Path.{_≡_, sym}
+use mathlib.Core.Path.{_≡_, _∙_}
 use lib.ListN.{length}
 use borrow.Author.Needs.{needs}
-use Rattle.lists.specs.Lists.{sameList, chunks}
-use Rattle.lists.proofs.Chunks.{length-chunks}
-use Rattle.lists.proofs.Tests.{any-first}
+use Rattle.lists.specs.Lists.{sameList}
+use Rattle.filters.proofs.Flat.{entry-found}
 use Rattle.filters.proofs.Identities.{first-entry}
 use Rattle.filters.proofs.accept.AcceptList.contains.Statement.{statement}
 use Rattle.filters.proofs.accept.AcceptList.contains.Tie as tie
@@ -24,8 +23,8 @@ returns c =
     let n = a .self .count in
     let octets = a .self .octets in
     let long : length octets ≡ 224 = search needs in
-    rw (c .place-of .ensures, first-entry n octets (omega arith) (a .entry))
-    (sym (rw length-chunks at (any-first (sameList (a .entry)) (chunks 7 n octets))))
+    let first = c .place-of .ensures ∙ first-entry n octets (omega arith) (a .entry) in
+    entry-found 7 n octets (sameList (a .entry)) _ first
 
 pub contains-spec : {M : Type 1} → statement M
 contains-spec = tie.close (tie.spec slice-aggregate-place-of place-of-requires returns)
