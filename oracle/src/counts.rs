@@ -168,6 +168,8 @@ impl Counts {
         let statuses = self.statuses.iter().enumerate().filter(|(_, n)| **n > 0);
         let statuses: Vec<_> = statuses.map(|(status, n)| format!("{status:#04x}: {n}")).collect();
         println!("statuses: {}", statuses.join(", "));
+        let [made, succeeded] = self.commands[0x200D];
+        println!("0x200d, which amendment E4 stands before: {made}, {succeeded} with status 0");
     }
 }
 

@@ -1,6 +1,7 @@
-//! Short inputs, all of them: packets, opcodes and bench lines.
+//! Short inputs, all of them: packets, opcodes and bench lines; and all pairs of limits of LE Create Connection.
 use crate::compare::Case;
-use crate::generate::plain_setup;
+use crate::generate::create_connection::{alone_and_in_pairs, RIGHT};
+use crate::generate::{command_packet, plain_setup};
 use crate::trial::{kind, put_record, Trial, ROOM};
 
 /// Calls of one run, each followed by the state.
@@ -11,7 +12,7 @@ const CHARACTERS: [u8; 14] = *b"PTCOX\t\n 019afA";
 
 /// All of them, one run after the other.
 pub fn cases() -> impl Iterator<Item = Case> {
-    let from_start = short_packets().chain(opcodes());
+    let from_start = short_packets().chain(opcodes()).chain(create_connections());
     from_start
         .map(|packets| Case::Trial(packets_trial(&packets, false)))
         .chain(short_packets().map(|packets| Case::Trial(packets_trial(&packets, true))))
@@ -52,6 +53,15 @@ fn opcodes() -> impl Iterator<Item = Vec<Vec<u8>>> {
     groups((0..=65_535u16).map(|opcode| {
         let [low, high] = opcode.to_le_bytes();
         vec![1, low, high, 0]
+    }))
+}
+
+/// LE Create Connection with each field at its limits, alone and in pairs; the same while initiating, which the right one sees
+/// to; then it is cancelled.
+fn create_connections() -> impl Iterator<Item = Vec<Vec<u8>>> {
+    groups(alone_and_in_pairs().into_iter().flat_map(|parameters| {
+        let create = command_packet(0x200D, &parameters);
+        [create.clone(), command_packet(0x200D, &RIGHT), create, command_packet(0x200E, &[])]
     }))
 }
 

@@ -242,7 +242,7 @@ mod tests {
     fn in_strange_calls() {
         found(Plant::Past, 3, strange);
         found(Plant::Together, 3, strange);
-        found(Plant::Wrap, 3, strange);
+        found(Plant::Wrap, 4, strange);
     }
 
     #[test]

@@ -165,6 +165,8 @@ fn packet(c: &mut Controller, given: &Given, p: &[u8]) -> Reply {
     if amendments::dropped_by_flags(c, p) {
         return Reply::default();
     }
+    let refused = amendments::with_refused_interval(p);
+    let p = refused.as_deref().unwrap_or(p);
     let events = c.on_packet(given.address, p, &mut |octets| octets.copy_from_slice(&given.random));
     Reply { taken: 0, octets: events.concat() }
 }

@@ -1,2 +1,3 @@
 -- The laws of the commands of `le`'s first half.
 pub mod Loading
+pub mod ScanTimes

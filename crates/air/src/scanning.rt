@@ -1,7 +1,10 @@
 // Legacy scanning: its parameters and whether it is on.
 ghost use mathlib.Core.Path.{_≡_};
+ghost use mathlib.Core.Bool.{_&&_};
+ghost use lib.Dec.{leb};
 ghost use lib.ListN.{length};
 ghost use Rattle.commands.specs.Air.{scanParametersValid, setScanParameters, setScanEnable};
+ghost use Rattle.commands.specs.Checks.{within};
 ghost use Rattle.commands.specs.Outcome.{GivesAny};
 ghost use Rattle.commands.specs.Put.{putScanning};
 use commands::ScanningAnswered;
@@ -9,6 +12,19 @@ use hci::status::COMMAND_DISALLOWED;
 use hci::status::INVALID_PARAMETERS;
 use hci::status::SUCCESS;
 use state::Controller;
+
+// Scan interval and window 0x0004 to 0x4000, the window at most the interval: the same to scan and to initiate.
+pub fn scan_times_valid(interval: u16, window: u16) -> bool
+    ensures { λ r. ⌜ r ≡ (within 0x0004 0x4000 interval && (within 0x0004 0x4000 window && leb window interval)) ⌝ }
+{
+    if !commands::within(0x0004, 0x4000, interval) {
+        return false;
+    }
+    if !commands::within(0x0004, 0x4000, window) {
+        return false;
+    }
+    window <= interval
+}
 
 fn scan_parameters_valid(p: &[u8]) -> bool
     requires { ⌜ length (now p) ≡ 7 ⌝ }
@@ -19,13 +35,7 @@ fn scan_parameters_valid(p: &[u8]) -> bool
     }
     let interval = octets::word_at(p, 1);
     let window = octets::word_at(p, 3);
-    if !commands::within(0x0004, 0x4000, interval) {
-        return false;
-    }
-    if !commands::within(0x0004, 0x4000, window) {
-        return false;
-    }
-    if window > interval {
+    if !scan_times_valid(interval, window) {
         return false;
     }
     if p[5] > 3 {

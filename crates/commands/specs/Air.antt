@@ -109,12 +109,24 @@ setScanEnable p m =
     cond (ltb 1 (octet p 0) || ltb 1 (octet p 1)) (outcome (done invalidParameters) m)
     (outcome (done success) (withScanning (withScanEnable p (m .scanning)) m))
 
--- 7.8.12 LE Create Connection (0x200D): not while initiating; then the four connection parameters. Scan interval, window, filter
--- policy and address types are not checked. The filter policy is kept
+-- 7.8.12. E4: "Core gives 0x200D's scan interval and window as 0x0004 to 0x4000, window at most interval. Filter is 0 or 1, own
+-- address type at most 3, peer address type at most 3 where filter is 0. Any other gives status 0x12, tested in this order after
+-- "already initiating" and before the connection parameters." With filter policy 1 the accept list names the peers
+unfoldable pub createConnectionValid : List ℕ → Bool
+createConnectionValid p =
+    within 0x0004 0x4000 (word p 0)
+    && (within 0x0004 0x4000 (word p 2)
+    && (leb (word p 2) (word p 0)
+    && (leb (octet p 4) 1
+    && (leb (octet p 12) 3
+    && ((not (eqb (octet p 4) 0) || leb (octet p 5) 3)
+    && connectionParamsValid (word p 13) (word p 15) (word p 17) (word p 19))))))
+
+-- 7.8.12 LE Create Connection (0x200D): not while initiating; then its parameters. The filter policy is kept
 unfoldable pub createConnection : List ℕ → Model → Outcome
 createConnection p m =
     cond (isYes (m .scanning .initiating)) (outcome (status commandDisallowed) m)
-    (cond (not (connectionParamsValid (word p 13) (word p 15) (word p 17) (word p 19))) (outcome (status invalidParameters) m)
+    (cond (not (createConnectionValid p)) (outcome (status invalidParameters) m)
     (outcome (status success) (withScanning (withInitiating 1 (octet p 4) (m .scanning)) m)))
 
 -- 7.8.13 LE Create Connection Cancel (0x200E): a connection complete event with Unknown Connection Identifier follows

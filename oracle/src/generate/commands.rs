@@ -1,4 +1,5 @@
 //! Commands with parameters around the limits of each (Core Vol 4 Part E section 7).
+use super::create_connection;
 use super::world::{command_packet, World};
 use crate::opcodes::size_of;
 use crate::random::Random;
@@ -109,11 +110,10 @@ fn on_air(random: &mut Random, world: &World, opcode: u16, p: &mut Vec<u8>) {
         }
         0x200C => p.extend([random.up_to(1), random.up_to(1)]),
         0x200D => {
-            p.extend(random.octets::<4>());
-            p.extend([random.pick(&[0, 0, 1, 1, 2, 255]), random.up_to(3)]);
-            p.extend(world.address(random));
-            p.push(random.up_to(3));
+            let peer = world.address(random);
+            p.extend(create_connection::right_scan_fields(random, peer));
             connection_values(random, p);
+            create_connection::strain(random, p);
         }
         _ => {}
     }

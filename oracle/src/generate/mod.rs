@@ -1,5 +1,6 @@
 //! Runs made at random: around every limit, with the state that a limit needs reached often enough.
 mod commands;
+pub mod create_connection;
 mod damage;
 mod lines;
 mod setups;
