@@ -30,11 +30,11 @@ pub extern "C" fn wegrulsta_update(
         };
     }
     let r = notices::peer_update(s, handle, interval, latency, timeout);
-    let answer = r.answer;
-    let written = telling::tell(answer, out);
     let links = r.links;
     let mut t = s;
     t.links = links;
+    let answer = r.answer;
+    let written = telling::tell(answer, out);
     Told {
         number: 0,
         state: t,
@@ -66,11 +66,11 @@ pub extern "C" fn wegrulsta_request_key(
         };
     }
     let r = notices::request_ltk(s, handle, *random, ediv);
-    let answer = r.answer;
-    let written = telling::tell(answer, out);
     let links = r.links;
     let mut t = s;
     t.links = links;
+    let answer = r.answer;
+    let written = telling::tell(answer, out);
     Told {
         number: 0,
         state: t,

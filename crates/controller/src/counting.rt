@@ -29,11 +29,11 @@ pub extern "C" fn wegrulsta_completed(
         };
     }
     let r = notices::completed(s, handle, count);
-    let answer = r.answer;
-    let written = telling::tell(answer, out);
     let links = r.links;
     let mut t = s;
     t.links = links;
+    let answer = r.answer;
+    let written = telling::tell(answer, out);
     Told {
         number: 0,
         state: t,

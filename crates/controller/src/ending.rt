@@ -28,11 +28,11 @@ pub extern "C" fn wegrulsta_remote_disconnect(
         };
     }
     let r = notices::remote_disconnect(s, handle, reason);
-    let answer = r.answer;
-    let written = telling::tell(answer, out);
     let links = r.links;
     let mut t = s;
     t.links = links;
+    let answer = r.answer;
+    let written = telling::tell(answer, out);
     Told {
         number: 0,
         state: t,
@@ -60,11 +60,11 @@ pub extern "C" fn wegrulsta_complete_disconnect(
         };
     }
     let r = notices::complete_disconnect(s, handle);
-    let answer = r.answer;
-    let written = telling::tell(answer, out);
     let links = r.links;
     let mut t = s;
     t.links = links;
+    let answer = r.answer;
+    let written = telling::tell(answer, out);
     Told {
         number: 0,
         state: t,

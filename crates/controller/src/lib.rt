@@ -4,8 +4,8 @@
 // keeps the state, hands it in by value and gets it back; events and taken packets are octets at the front of a buffer that the
 // caller lends. Contracts cite `calls/specs/Gives.antt`.
 //
-// An exported function carries its call out itself: were it to hand on to another, the state would be copied once more
-// (docs/SPEED.md).
+// An exported function carries its call out itself: were it to hand on to another, the state would be copied once more. A
+// notice puts the new state together before it writes its event, for the same reason (docs/SPEED.md).
 mod changing;
 mod counting;
 mod ending;

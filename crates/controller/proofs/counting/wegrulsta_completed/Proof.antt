@@ -25,7 +25,7 @@ completed-requires c κs =
 
 tell-requires : tie.Need-tell-requires
 tell-requires c κs =
-    let n = c .before .before in
+    let n = c .before .before .before in
     let args = n .before .before .before .before .before .args in
     let yes = events-asked (args .profile) (args .s) (now (args .out)) (rw (n .before .before .before .holds .ensures) at (n .before .before .about-events .ensures)) (n .before .if1 .left) in
     can-tell (n .completed .ensures) (yes .held) (completed-tells (args .handle) (args .count)) (yes .room)
@@ -41,7 +41,7 @@ returns-2 c =
     let args = n .before .before .before .before .before .args in
     let yes = events-asked (args .profile) (args .s) (now (args .out)) asked zero in
     gives-told (n .completed .ensures) (yes .held) (λ pool opcodes answers bits. (refl, refl, refl))
-    (λ pool opcodes answers bits. sym zero ∙ asked) (c .before .before .before .tell .ensures)
+    (λ pool opcodes answers bits. sym zero ∙ asked) (c .before .before .tell .ensures)
 
 pub wegrulsta-completed-spec : {M : Type 1} → statement M
 wegrulsta-completed-spec =
