@@ -155,6 +155,7 @@ fn words(first: u16, second: u16) -> Vec<u8> {
 }
 
 /// An address type and an address, which is random and static: another for each number, and as unlike as those of devices are.
+/// With this seed one entry has the mark of another, as many as chance gives; docs/SPEED.md says what other seeds gave.
 fn entry(number: u8) -> [u8; 7] {
     let [a, b, c, d, e, f] = Random::of_run(6, u64::from(number)).octets();
     [1, a, b, c, d, e, f | 0xC0]
