@@ -1,6 +1,8 @@
 // AES-128 by FIPS 197: the cipher and its key expansion. specs/Field.antt and specs/Aes.antt say what they are.
 //
 // The two exported functions bind the S-box once and lend it down.
+#![tactic(auto)]
+
 mod tables;
 
 ghost use Rattle.std.specs.Prelude.{◌≡◌, ◌<◌, get_or};

@@ -1,6 +1,7 @@
 // The first half of `le`: masks and reads, the random address, legacy advertising, scanning, initiating and the accept list
 // (Core Vol 4 Part E sections 7.8.1 to 7.8.17). For the crate `dispatch`, which picks one by its opcode. The definitions of these
 // commands are `Air.antt` of the crate `commands`.
+#![tactic(auto)]
 
 mod accepting;
 mod advertising;

@@ -1,6 +1,8 @@
 // How a command is answered: the source's four forms, with the return parameters and the event that follows them as octets
 // beside the form. For the commands, which make answers by these functions alone, and for the controller, which writes them.
 // Contracts cite `specs/Answers.antt`.
+#![tactic(auto)]
+
 ghost use Rattle.std.specs.Prelude.{◌≡◌, [], ◌∷◌, ◌≤◌, length};
 ghost use Rattle.octets.specs.Octets.{Put, le};
 ghost use Rattle.hci.specs.Write.{count};
@@ -10,7 +12,7 @@ ghost use Rattle.answers.specs.Answers.{answer_of, acknowledgement, octets_of, f
 use hci::Written;
 
 // Acknowledged by Command Complete, by Command Status, or not at all. An event may follow the first two.
-#[derive(Drop)]
+#[derive(Clone, Copy)]
 pub enum Form {
     Complete,
     Status,
@@ -19,7 +21,7 @@ pub enum Form {
 
 // `octets` are the return parameters of Command Complete, or the status of Command Status; `then` is the event that follows,
 // of no octets where there is none.
-#[derive(Drop)]
+#[derive(Clone, Copy)]
 pub struct Answer {
     pub form: Form,
     pub octets: [u8; 65],

@@ -1,6 +1,8 @@
 // The bench program of document 01: records from standard input, one a line, and what each answers to standard output. It streams:
 // no more of the input is held than one line. A line that is no record ends the run, silently. What a line asks for and what is
 // printed for it is the crate `records`.
+#![tactic(auto)]
+
 ghost use Rattle.std.specs.Prelude.{◌≡◌, ◌≤◌, length};
 ghost use Rattle.calls.specs.Calls.{held};
 ghost use Rattle.records.specs.Bench.{Running};
@@ -9,7 +11,7 @@ use libc::{STDIN_FILENO, STDOUT_FILENO};
 use state::Controller;
 
 // Between two parts of the input: the state, how many octets of a line are held, and whether the run goes on.
-#[derive(Drop)]
+#[derive(Clone, Copy)]
 struct Reading {
     state: Controller,
     held: usize,

@@ -2,6 +2,8 @@
 // stream of `h4`, and AES. Each hands its arguments on to the Rattle function of the same work and promises the same. The calls that
 // take a state are exported by `controller`. For firmware; `embed/wegrulsta.h` declares them. Contracts cite those of `hci`, `h4`
 // and `aes`, and `specs/` where an answer has another form.
+#![tactic(auto)]
+
 mod cipher;
 mod packets;
 mod stream;

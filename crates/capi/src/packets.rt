@@ -12,7 +12,7 @@ use hci::{AclRead, Command, CommandRead, Has, Written};
 
 // What a writer answers: 0, 8 or 9, and how many octets it wrote to the front of the buffer.
 #[repr(C)]
-#[derive(Drop)]
+#[derive(Clone, Copy)]
 pub struct Wrote {
     pub number: u8,
     pub written: usize,
@@ -20,7 +20,7 @@ pub struct Wrote {
 
 // Whether a mask has a bit; false where the number is 10.
 #[repr(C)]
-#[derive(Drop)]
+#[derive(Clone, Copy)]
 pub struct MaskHas {
     pub number: u8,
     pub has: bool,
@@ -38,7 +38,7 @@ pub const SHORT_BODY: u8 = 3;
 
 // The parameters are the len octets from the fifth.
 #[repr(C)]
-#[derive(Drop)]
+#[derive(Clone, Copy)]
 pub struct ReadCommand {
     pub kind: u8,
     pub len: u8,
@@ -47,7 +47,7 @@ pub struct ReadCommand {
 
 // The data are the len octets from the sixth. The flags are bits 12 and 13 of the packet's word, and bits 14 and 15.
 #[repr(C)]
-#[derive(Drop)]
+#[derive(Clone, Copy)]
 pub struct ReadAcl {
     pub kind: u8,
     pub boundary: u8,

@@ -17,7 +17,7 @@ pub const NO_ROOM: u8 = 3;
 
 // PACKETS: the packet at the front has len octets. MORE, or UNDEFINED with the indicator.
 #[repr(C)]
-#[derive(Drop)]
+#[derive(Clone, Copy)]
 pub struct PacketLength {
     pub kind: u8,
     pub indicator: u8,
@@ -27,7 +27,7 @@ pub struct PacketLength {
 // PACKETS: the first stream.ready octets of the buffer are whole packets. UNDEFINED: framing is lost at the indicator. NO_ROOM:
 // nothing has changed.
 #[repr(C)]
-#[derive(Drop)]
+#[derive(Clone, Copy)]
 pub struct StreamFed {
     pub stream: H4Stream,
     pub kind: u8,

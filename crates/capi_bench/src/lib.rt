@@ -1,6 +1,8 @@
 // Bench lines (document 01) for C, in an archive of their own: records as text in, what the program `bench` prints out. For runs
 // against the source. A unit has no use for them, and in one archive with its calls they would cost each packet a copy of the
 // state (docs/SPEED.md). `embed/wegrulsta_bench.h` declares the function.
+#![tactic(auto)]
+
 ghost use Rattle.std.specs.Prelude.{length};
 ghost use Rattle.octets.specs.Octets.{Put};
 ghost use Rattle.records.specs.Bench.{run_octets};

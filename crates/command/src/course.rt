@@ -8,7 +8,7 @@ use dispatch::Part;
 use profile::Answering;
 
 // Why a command is answered without being carried out.
-#[derive(Drop)]
+#[derive(Clone, Copy)]
 pub enum Reason {
     UnknownRow,
     NoRow,
@@ -20,7 +20,7 @@ pub enum Reason {
 }
 
 // A command that is carried out changes that part of the state.
-#[derive(Drop)]
+#[derive(Clone, Copy)]
 pub enum Course {
     Answered(Reason),
     Carried(Part),

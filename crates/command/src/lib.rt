@@ -2,6 +2,8 @@
 // profile's row, the advertising family and the table of commands, and there is a function for each of these courses. They give what
 // the command changes, and `putting` puts it into the state. For `on_packet`, which has asked the questions. Contracts cite
 // `specs/Calling.antt` and `commands/specs/Command.antt`.
+#![tactic(auto)]
+
 use filters::{AcceptList, ResolvingList};
 use links::Links;
 use state::{Advertising, Controller, Counters, Masks, Recent, Scanning, Settings};
@@ -22,7 +24,7 @@ pub use setting::{set_advertising, set_masks, set_scanning, set_settings};
 // What a call gives that tells the host: the state after it, how many octets of events stand at the front of the buffer, and 0 or
 // the number of a refusal.
 #[repr(C)]
-#[derive(Drop)]
+#[derive(Clone, Copy)]
 pub struct Told {
     pub state: Controller,
     pub written: usize,
@@ -30,7 +32,7 @@ pub struct Told {
 }
 
 // What every command changes, and how many octets of events stand at the front of the buffer.
-#[derive(Drop)]
+#[derive(Clone, Copy)]
 pub struct Noted {
     pub counters: Counters,
     pub settings: Settings,
@@ -39,44 +41,44 @@ pub struct Noted {
 }
 
 // The same, and the one part that the command changes besides.
-#[derive(Drop)]
+#[derive(Clone, Copy)]
 pub struct MasksSet {
     pub noted: Noted,
     pub masks: Masks,
 }
 
-#[derive(Drop)]
+#[derive(Clone, Copy)]
 pub struct AdvertisingSet {
     pub noted: Noted,
     pub advertising: Advertising,
 }
 
-#[derive(Drop)]
+#[derive(Clone, Copy)]
 pub struct ScanningSet {
     pub noted: Noted,
     pub scanning: Scanning,
 }
 
-#[derive(Drop)]
+#[derive(Clone, Copy)]
 pub struct AcceptListChanged {
     pub noted: Noted,
     pub accept_list: AcceptList,
 }
 
-#[derive(Drop)]
+#[derive(Clone, Copy)]
 pub struct ResolvingListChanged {
     pub noted: Noted,
     pub resolving_list: ResolvingList,
 }
 
-#[derive(Drop)]
+#[derive(Clone, Copy)]
 pub struct LinksChanged {
     pub noted: Noted,
     pub links: Links,
 }
 
 // After a Reset: all else is the state's.
-#[derive(Drop)]
+#[derive(Clone, Copy)]
 pub struct Restarted {
     pub noted: Noted,
     pub state: Controller,

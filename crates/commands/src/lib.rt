@@ -1,6 +1,8 @@
 // What the commands share: the answer beside the state, a part of the state put back, the events that follow an answer, the
 // tests of parameters that more than one command makes, and the table of opcodes and lengths. `specs/` holds the definitions of
 // all commands; their code is in the crates `known`, `air`, `link`, `privacy` and `test_and_power`. For these, and for `command` above them.
+#![tactic(auto)]
+
 mod checks;
 mod events;
 mod parts;

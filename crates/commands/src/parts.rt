@@ -8,43 +8,43 @@ use filters::{AcceptList, ResolvingList};
 use links::Links;
 use state::{Advertising, Controller, Scanning, Settings};
 
-#[derive(Drop)]
+#[derive(Clone, Copy)]
 pub struct Answered {
     pub state: Controller,
     pub answer: Answer,
 }
 
-#[derive(Drop)]
+#[derive(Clone, Copy)]
 pub struct SettingsAnswered {
     pub settings: Settings,
     pub answer: Answer,
 }
 
-#[derive(Drop)]
+#[derive(Clone, Copy)]
 pub struct AdvertisingAnswered {
     pub advertising: Advertising,
     pub answer: Answer,
 }
 
-#[derive(Drop)]
+#[derive(Clone, Copy)]
 pub struct ScanningAnswered {
     pub scanning: Scanning,
     pub answer: Answer,
 }
 
-#[derive(Drop)]
+#[derive(Clone, Copy)]
 pub struct AcceptAnswered {
     pub accept_list: AcceptList,
     pub answer: Answer,
 }
 
-#[derive(Drop)]
+#[derive(Clone, Copy)]
 pub struct ResolvingAnswered {
     pub resolving_list: ResolvingList,
     pub answer: Answer,
 }
 
-#[derive(Drop)]
+#[derive(Clone, Copy)]
 pub struct LinksAnswered {
     pub links: Links,
     pub answer: Answer,

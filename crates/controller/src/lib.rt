@@ -6,6 +6,8 @@
 //
 // An exported function carries its call out itself: were it to hand on to another, the state would be copied once more. A
 // notice puts the new state together before it writes its event, for the same reason (docs/SPEED.md).
+#![tactic(auto)]
+
 mod changing;
 mod counting;
 mod ending;
@@ -40,7 +42,7 @@ pub use taking::wegrulsta_take as take_transmit;
 // What a call gives that has no buffer: the state after it, and 0 or the number of a refusal. In all answers the state stands
 // first, so that it is copied from where it lies (docs/SPEED.md).
 #[repr(C)]
-#[derive(Drop)]
+#[derive(Clone, Copy)]
 pub struct Changed {
     pub state: Controller,
     pub number: u8,
@@ -49,7 +51,7 @@ pub struct Changed {
 // What a take gives: the state after it, how many packets were taken, how many octets they have together at the front of the
 // buffer, and 0 or the number of a refusal.
 #[repr(C)]
-#[derive(Drop)]
+#[derive(Clone, Copy)]
 pub struct Took {
     pub state: Controller,
     pub count: usize,

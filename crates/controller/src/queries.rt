@@ -12,13 +12,13 @@ use profile::ControllerRow;
 use state::Controller;
 
 #[repr(C)]
-#[derive(Drop)]
+#[derive(Clone, Copy)]
 pub struct Connected {
     pub number: u8,
     pub connected: bool,
 }
 
-#[derive(Drop)]
+#[derive(Clone, Copy)]
 pub struct DisconnectWaits {
     pub number: u8,
     pub reason: DisconnectReason,
@@ -26,28 +26,28 @@ pub struct DisconnectWaits {
 
 // The same for C: 0 where no Disconnect waits, since no reason is 0.
 #[repr(C)]
-#[derive(Drop)]
+#[derive(Clone, Copy)]
 pub struct ReasonTold {
     pub number: u8,
     pub reason: u8,
 }
 
 #[repr(C)]
-#[derive(Drop)]
+#[derive(Clone, Copy)]
 pub struct FreeHandle {
     pub number: u8,
     pub handle: u16,
 }
 
 #[repr(C)]
-#[derive(Drop)]
+#[derive(Clone, Copy)]
 pub struct InUse {
     pub number: u8,
     pub count: usize,
 }
 
 #[repr(C)]
-#[derive(Drop)]
+#[derive(Clone, Copy)]
 pub struct Bitmap {
     pub number: u8,
     pub map: [u8; 64],

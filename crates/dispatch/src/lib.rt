@@ -1,6 +1,8 @@
 // Which function carries out a command. A command that changes the state changes one part of it, and there is a function here for
 // each part: it picks the command by its opcode and gives the new part beside the answer, so that the state itself is put together
 // once, by `command`. Contracts cite `specs/Parts.antt` and the table of commands, `specs/Table.antt` of the crate `commands`.
+#![tactic(auto)]
+
 ghost use Rattle.std.specs.Prelude.{◌≡◌, ◌<◌, get_or};
 ghost use Rattle.dispatch.specs.Parts.{part_number, parts};
 
@@ -15,7 +17,7 @@ pub use reading::read;
 pub use setting::{advertising, masks, scanning, settings};
 
 // The part of the state that a command changes. Only Reset changes more than one.
-#[derive(Drop)]
+#[derive(Clone, Copy)]
 pub enum Part {
     Nothing,
     Masks,

@@ -7,14 +7,14 @@ use crate::keys::{cut, place_of};
 use crate::resolving::identity;
 
 #[repr(C)]
-#[derive(Drop)]
+#[derive(Clone, Copy)]
 pub struct AcceptList {
     pub octets: [u8; 224],
     pub count: usize,
 }
 
 // The list after adding, and whether it was full.
-#[derive(Drop)]
+#[derive(Clone, Copy)]
 pub struct AcceptAdded {
     pub list: AcceptList,
     pub full: bool,

@@ -8,7 +8,7 @@ use crate::differ::entries_differ;
 use crate::keys::{cut, place_of};
 
 #[repr(C)]
-#[derive(Drop)]
+#[derive(Clone, Copy)]
 pub struct ResolvingList {
     pub octets: [u8; 128],
     pub count: usize,

@@ -1,6 +1,8 @@
 // The H4 transport (Core Vol 4 Part A): how long the packet at the front of some octets is, and a stream of octets
 // framed into whole packets over a buffer that the caller lends. For hosts and links that exchange packets as a stream
 // of octets. Contracts cite `specs/`.
+#![tactic(auto)]
+
 ghost use Rattle.std.specs.Prelude.{◌≡◌, ◌+◌, ◌-◌, ◌%◌, ◌≤◌, ◌<◌, length, take};
 ghost use Rattle.octets.specs.Octets.{octet, word};
 ghost use Rattle.h4.specs.Framing.{packet_length, measured, framed, packet_at};
@@ -22,7 +24,7 @@ pub const H4_MAX_PACKET: usize = 5 + 0xFFFF;
 
 // What the octets at the front of a stream say: a packet of so many octets, too few octets to tell, or an indicator
 // that is not defined, after which framing is lost.
-#[derive(Drop)]
+#[derive(Clone, Copy)]
 pub enum PacketLen {
     Packet(usize),
     More,
@@ -78,7 +80,7 @@ fn wide(x: u8) -> usize
 
 // What feeding a stream answers: the first so many octets of the buffer are whole packets, end to end and oldest first;
 // or framing is lost at an undefined indicator; or the buffer has no room for them, and nothing has changed.
-#[derive(Drop)]
+#[derive(Clone, Copy)]
 pub enum Fed {
     Packets(usize),
     Lost(u8),
@@ -108,13 +110,13 @@ fn frame(bytes: &[u8]) -> Fed
 // A stream over a buffer that the caller lends to each call: the first `ready` octets of the buffer are the packets of the
 // last feed, the next `held` octets wait for the rest of their packet.
 #[repr(C)]
-#[derive(Drop)]
+#[derive(Clone, Copy)]
 pub struct H4Stream {
     pub ready: usize,
     pub held: usize,
 }
 
-#[derive(Drop)]
+#[derive(Clone, Copy)]
 pub struct FedStream {
     pub stream: H4Stream,
     pub answer: Fed,

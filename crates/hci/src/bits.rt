@@ -4,7 +4,7 @@ ghost use Rattle.std.specs.Int.Bits.{bit_or};
 ghost use Rattle.hci.specs.Bits.{MaskHas, with_bit};
 
 // Whether a mask has a bit; a 64-bit mask has no bit of 64 or more (refusal 10).
-#[derive(Drop)]
+#[derive(Clone, Copy)]
 pub enum Has {
     Yes,
     No,

@@ -6,13 +6,13 @@ ghost use Rattle.hci.specs.Read.{parse_command, parse_acl, acl_parts, acl_data};
 use h4::{H4_ACL, H4_COMMAND};
 
 // A command packet: its opcode, and how many parameter octets follow the first four.
-#[derive(Drop)]
+#[derive(Clone, Copy)]
 pub struct Command {
     pub opcode: u16,
     pub len: u8,
 }
 
-#[derive(Drop)]
+#[derive(Clone, Copy)]
 pub enum CommandRead {
     Whole(Command),
     ShortHeader,
@@ -44,7 +44,7 @@ impl Command {
 
 // An ACL data packet: the handle in the low 12 bits of its first word, the packet boundary flag in bits 12 and 13, the broadcast
 // flag in bits 14 and 15, and how many octets of data follow the first five.
-#[derive(Drop)]
+#[derive(Clone, Copy)]
 pub struct Acl {
     pub handle: u16,
     pub boundary: u8,
@@ -52,7 +52,7 @@ pub struct Acl {
     pub len: u16,
 }
 
-#[derive(Drop)]
+#[derive(Clone, Copy)]
 pub enum AclRead {
     Whole(Acl),
     ShortHeader,
@@ -86,7 +86,7 @@ impl Acl {
 
 // What the header of an ACL data packet says, with its boundary flag (bits 12 and 13 of its first word) and its broadcast flag
 // (bits 14 and 15), both 0 where the packet is not read. The data itself is handed back by `acl_data`.
-#[derive(Drop)]
+#[derive(Clone, Copy)]
 pub struct AclParts {
     pub header: AclRead,
     pub boundary: u8,

@@ -10,7 +10,7 @@ use h4::{H4_ACL, H4_EVENT};
 
 // What a writer answers: how many octets it wrote, or that the packet's length field can't hold its length (refusal 8), or
 // that the buffer can't hold the packet (refusal 9).
-#[derive(Drop)]
+#[derive(Clone, Copy)]
 pub enum Written {
     Octets(usize),
     TooLong,

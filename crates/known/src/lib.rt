@@ -1,6 +1,7 @@
 // The commands of link control, of the controller and baseband, and of the informational and status parameters (Core Vol 4 Part
 // E sections 7.1, 7.3, 7.4 and 7.5): the source's `known` before it goes on to the LE commands. For the crate `dispatch`, which
 // picks one by its opcode. Contracts cite the definitions of `commands`, `specs/Known.antt`.
+#![tactic(auto)]
 
 mod baseband;
 mod information;

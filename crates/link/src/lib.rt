@@ -1,5 +1,6 @@
 // The commands that concern links, encryption and data length: opcodes 0x2013 to 0x2024 (Core Vol 4 Part E sections 7.8.18 to
 // 7.8.35). For the crate `dispatch`, which picks one by its opcode. The definitions are in the crate `commands`, specs/Link.antt.
+#![tactic(auto)]
 
 mod data_length;
 mod encryption;

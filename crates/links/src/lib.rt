@@ -1,6 +1,8 @@
 // The controller's links: sixteen connection places beside their count, one queue of the packets that wait in all links, and
 // the number of packets in flight. The packets' octets lie in a pool that the caller lends (crate `transmit`). For the
 // controller's commands, notices and question 3. Contracts cite `specs/`.
+#![tactic(auto)]
+
 ghost use Rattle.std.specs.Prelude.{[]};
 ghost use Rattle.links.specs.Change.{ListsOf};
 
@@ -21,7 +23,7 @@ pub use look::{
 
 // One link's parameters, as in the source; its queue is the part of `Links::waiting` with its handle.
 #[repr(C)]
-#[derive(Drop)]
+#[derive(Clone, Copy)]
 pub struct Connection {
     pub handle: u16,
     // 1.25 ms units.
@@ -43,7 +45,7 @@ pub struct Connection {
 
 // A waiting packet: its link, the pool place that holds its octets, and how many they are.
 #[repr(C)]
-#[derive(Drop)]
+#[derive(Clone, Copy)]
 pub struct Waiting {
     pub handle: u16,
     pub len: u16,
@@ -51,7 +53,7 @@ pub struct Waiting {
 }
 
 #[repr(C)]
-#[derive(Drop)]
+#[derive(Clone, Copy)]
 pub struct Links {
     pub connections: [Connection; 16],
     pub count: usize,
@@ -62,14 +64,14 @@ pub struct Links {
 }
 
 // The connection of a handle, where there is one.
-#[derive(Drop)]
+#[derive(Clone, Copy)]
 pub enum FoundConnection {
     Found(Connection),
     Nothing,
 }
 
 // The reason of a Disconnect that waits for the peer, where there is one.
-#[derive(Drop)]
+#[derive(Clone, Copy)]
 pub enum DisconnectReason {
     Reason(u8),
     Nothing,

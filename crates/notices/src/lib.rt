@@ -2,6 +2,8 @@
 // its end, and the end of advertising. Each function gives the links after the notice, which are smaller to hand back than the
 // state, or the state where advertising changes too; and the event for the host as an answer without an acknowledgement. For the
 // controller's calls, which ask their questions first. Contracts cite `specs/Notices.antt`.
+#![tactic(auto)]
+
 mod changing;
 mod ending;
 mod opening;

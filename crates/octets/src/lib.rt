@@ -1,5 +1,7 @@
 // Octets written into a lent buffer, moved within it, and numbers read from it. The layers above call these once they
 // know that what they write fits, so each requires the room; contracts cite `specs/Octets.antt`.
+#![tactic(auto)]
+
 ghost use Rattle.std.specs.Prelude.{◌≡◌, [], ◌∷◌, ◌++◌, ◌+◌, ◌≤◌, min, length, take, drop};
 ghost use Rattle.octets.specs.Octets.{Put, number_at};
 

@@ -1,5 +1,6 @@
 // The commands of the resolving list, of address resolution and of the PHYs (Core Vol 4 Part E sections 7.8.38 to 7.8.49 and
 // 7.8.77). For the crate `dispatch`, which picks one by its opcode. Contracts cite `specs/Privacy.antt` of the crate `commands`.
+#![tactic(auto)]
 
 mod addresses;
 mod phy;

@@ -1,6 +1,8 @@
 // The profile that a controller is handed with each call: what it reports about itself and how it answers each opcode
 // (`ControllerRow` and `Answering` of the source; the rows are three slices that the caller lends). For the controller's
 // calls, whose questions 1 and 2 are asked here. Contracts cite `specs/Profile.antt`.
+#![tactic(auto)]
+
 ghost use Rattle.std.specs.Prelude.{◌≡◌, true, cond, leb, ltb};
 ghost use Rattle.lists.specs.Lists.{all};
 ghost use Rattle.hci.specs.Bits.{with_bit};
@@ -8,7 +10,7 @@ ghost use Rattle.profile.specs.Profile.{within_limits, answers_fit, rows_fit, ro
 
 // What the controller reports about itself, and how large its buffers and lists are.
 #[repr(C)]
-#[derive(Drop)]
+#[derive(Clone, Copy)]
 pub struct ControllerRow {
     pub hci_version: u8,
     pub hci_subversion: u16,
@@ -89,7 +91,7 @@ fn answers_fit(answers: &[u8]) -> bool
 }
 
 // How a row answers its opcode; NoRow where no row has it.
-#[derive(Drop)]
+#[derive(Clone, Copy)]
 pub enum Answering {
     Modeled,
     Unmodeled,

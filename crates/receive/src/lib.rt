@@ -2,6 +2,8 @@
 // dropped (`on_packet` and `acl` of the source). For the controller's `on_packet`, which asks its questions first and has commands
 // carried out. Data gives the parts of the state that it changes, and the state is put together where the call returns: were the
 // whole state to go through, it would be copied more often (docs/SPEED.md). Contracts cite `specs/Receiving.antt`.
+#![tactic(auto)]
+
 ghost use Rattle.std.specs.Prelude.{◌≡◌, true, ◌&&◌, ◌≤◌};
 ghost use Rattle.hci.specs.Read.{parse_command};
 ghost use Rattle.profile.specs.Profile.{answers_fit};
@@ -20,7 +22,7 @@ use profile::ControllerRow;
 use state::{Controller, Counters};
 
 // What a packet asks for. A command comes with its opcode.
-#[derive(Drop)]
+#[derive(Clone, Copy)]
 pub enum Task {
     Nothing,
     Data,
@@ -81,7 +83,7 @@ pub fn parameters(packet: &[u8]) -> &[u8]
 }
 
 // What a data packet changes.
-#[derive(Drop)]
+#[derive(Clone, Copy)]
 pub struct Delivered {
     pub counters: Counters,
     pub links: Links,

@@ -18,14 +18,14 @@ use profile::ControllerRow;
 use state::Controller;
 
 // What is printed for a call: the state after it, and the index after what was written.
-#[derive(Drop)]
+#[derive(Clone, Copy)]
 struct Printed {
     state: Controller,
     next: usize,
 }
 
 // One line of the input: whether it is a record, the state after it, and the index after what was written.
-#[derive(Drop)]
+#[derive(Clone, Copy)]
 pub struct Stepped {
     pub more: bool,
     pub state: Controller,

@@ -1,5 +1,7 @@
 // Bench lines (document 01): reading a line, making the call that it asks for, and printing what the call answers. For the program
 // `bench` and for the C calls. Contracts cite `specs/Lines.antt` and `specs/Bench.antt`.
+#![tactic(auto)]
+
 mod bench;
 mod print;
 mod read;
@@ -8,7 +10,7 @@ mod rows;
 pub use bench::{bench_profile, run, step};
 
 // The four numbers of a record that opens a link.
-#[derive(Drop)]
+#[derive(Clone, Copy)]
 pub struct Opening {
     pub handle: u16,
     pub interval: u16,
@@ -18,7 +20,7 @@ pub struct Opening {
 
 // What a line says: a packet, whose octets stand at the front of a buffer, a take, a completed report, a link that opens, or no
 // record.
-#[derive(Drop)]
+#[derive(Clone, Copy)]
 pub enum Record {
     Packet(usize),
     Take(u16, u16),

@@ -8,21 +8,21 @@ ghost use Rattle.records.specs.Reading.{line_of, is_tab, digit_of, number_of, fi
 use crate::{Opening, Record};
 
 // What a field says where a number is asked for.
-#[derive(Drop)]
+#[derive(Clone, Copy)]
 pub enum Number {
     Value(u16),
     NotNumber,
 }
 
 // The number of the first of several fields, with the index behind its tab.
-#[derive(Drop)]
+#[derive(Clone, Copy)]
 pub enum First {
     Then(u16, usize),
     NoFirst,
 }
 
 // The numbers of two fields.
-#[derive(Drop)]
+#[derive(Clone, Copy)]
 pub enum Pair {
     Two(u16, u16),
     NoPair,

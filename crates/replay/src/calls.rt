@@ -35,7 +35,7 @@ const LONGEST_ANSWER: usize = 40960;
 
 // What a record gave: the state after it, the number of the refusal or 0, how many packets were taken, and how many octets stand
 // at the front of the buffer.
-#[derive(Drop)]
+#[derive(Clone, Copy)]
 struct Reply {
     state: Controller,
     number: u8,
@@ -45,7 +45,7 @@ struct Reply {
 
 // Between two records: the state, how many octets of records are read, how much room for answers is left, and whether the run
 // goes on.
-#[derive(Drop)]
+#[derive(Clone, Copy)]
 struct Progress {
     state: Controller,
     read: usize,

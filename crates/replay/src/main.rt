@@ -5,6 +5,8 @@
 // octets there are of the setup, the pool, the event buffer, the buffer of taken packets, the room for answers, and the records.
 // A run whose setup is none has no answers. A run with more octets of one of these than a buffer has, the room for answers aside,
 // ends the program, as the input's end does.
+#![tactic(auto)]
+
 mod calls;
 mod dump;
 mod hex;

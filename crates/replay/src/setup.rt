@@ -15,7 +15,7 @@ use crate::slices::{octet_at, word_at};
 use profile::ControllerRow;
 
 // How many octets a run has of each; answers is the room for those.
-#[derive(Drop)]
+#[derive(Clone, Copy)]
 pub struct Sizes {
     pub setup: usize,
     pub pool: usize,
@@ -25,7 +25,7 @@ pub struct Sizes {
     pub records: usize,
 }
 
-#[derive(Drop)]
+#[derive(Clone, Copy)]
 pub struct Rows {
     pub opcodes: [u16; 256],
     pub answers: [u8; 256],

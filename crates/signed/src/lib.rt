@@ -1,6 +1,8 @@
 // Signed numbers of HCI parameters: read from two octets, written as one, compared on both sides of zero. For the
 // commands on powers and path compensations; contracts cite `specs/Signed.antt`. A cast that changes the value is
 // undefined, so a number x below zero is cast as -1 - x, which is 0 for -1 and 127 for -128.
+#![tactic(auto)]
+
 ghost use Rattle.std.specs.Prelude.{◌≡◌, ◌+◌, ◌≤◌, length, pos, neg_ℤ};
 ghost use Rattle.octets.specs.Octets.{word};
 ghost use Rattle.signed.specs.Signed.{octet_of, signed_word, between, lesser_signed};

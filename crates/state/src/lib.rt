@@ -1,5 +1,6 @@
 // The state of one controller, by value: the source's `Controller` in groups, lists as arrays beside their counts. For the
 // controller's commands and notices. Contracts cite `specs/State.antt`.
+#![tactic(auto)]
 
 mod history;
 mod hold;
@@ -16,7 +17,7 @@ pub use start::{default_state, reset};
 
 // Which events the host has enabled (Core Vol 4 Part E sections 7.3.1, 7.3.69 and 7.8.1).
 #[repr(C)]
-#[derive(Drop)]
+#[derive(Clone, Copy)]
 pub struct Masks {
     pub event: u64,
     pub event_page2: u64,
@@ -25,7 +26,7 @@ pub struct Masks {
 
 // What the host has set that no link and no list holds.
 #[repr(C)]
-#[derive(Drop)]
+#[derive(Clone, Copy)]
 pub struct Settings {
     // Least significant octet first.
     pub random_address: [u8; 6],
@@ -54,7 +55,7 @@ pub const TRANSMITTER_TEST: u8 = 2;
 
 // The legacy advertising state (sections 7.8.5 to 7.8.9).
 #[repr(C)]
-#[derive(Drop)]
+#[derive(Clone, Copy)]
 pub struct Advertising {
     // The parameters of the last Set Advertising Parameters that was accepted.
     pub params: [u8; 15],
@@ -66,7 +67,7 @@ pub struct Advertising {
     pub enabled: u8,
 }
 
-#[derive(Drop)]
+#[derive(Clone, Copy)]
 pub struct Interval {
     pub least: u16,
     pub greatest: u16,
@@ -74,7 +75,7 @@ pub struct Interval {
 
 // Scanning and initiating (sections 7.8.10 to 7.8.13).
 #[repr(C)]
-#[derive(Drop)]
+#[derive(Clone, Copy)]
 pub struct Scanning {
     pub params: [u8; 7],
     pub enable: [u8; 2],
@@ -85,7 +86,7 @@ pub struct Scanning {
 
 // Counters that a reset keeps.
 #[repr(C)]
-#[derive(Drop)]
+#[derive(Clone, Copy)]
 pub struct Counters {
     pub commands: u64,
     pub unknown_commands: u64,
@@ -95,14 +96,14 @@ pub struct Counters {
 
 // The last answers, oldest first: opcode, low octet first, and status, three octets each.
 #[repr(C)]
-#[derive(Drop)]
+#[derive(Clone, Copy)]
 pub struct Recent {
     pub octets: [u8; 96],
     pub count: usize,
 }
 
 #[repr(C)]
-#[derive(Drop)]
+#[derive(Clone, Copy)]
 pub struct Controller {
     pub masks: Masks,
     pub settings: Settings,

@@ -2,6 +2,8 @@
 // `places` places of `size` octets each. For data packets and `take_transmit` of the controller. Both give the waiting packets and
 // no more of the links, which the caller puts together: were all of them to go through, they would be copied more often
 // (docs/SPEED.md). Contracts cite `specs/Transmit.antt`, those of the steps `specs/Steps.antt`.
+#![tactic(auto)]
+
 ghost use Rattle.std.specs.Prelude.{◌≡◌, ◌&&◌, ◌+◌, ◌*◌, ◌≤◌, eqb, ltb, length, take};
 ghost use Rattle.lists.specs.Lists.{first_at, read_at};
 ghost use Rattle.octets.specs.Octets.{Put};
@@ -79,7 +81,7 @@ pub fn enqueue(
 
 // What taking gives: the packets that wait on, how many they are and how many are in flight; and how many packets and octets
 // were written, or that the buffer can't hold them.
-#[derive(Drop)]
+#[derive(Clone, Copy)]
 pub struct Taken {
     pub waiting: [Waiting; 32],
     pub waiting_count: usize,
@@ -90,7 +92,7 @@ pub struct Taken {
 }
 
 // The waiting packets to be taken, at the front of `packets`, how many they are and how many octets they have together.
-#[derive(Drop)]
+#[derive(Clone, Copy)]
 struct Chosen {
     packets: [Waiting; 32],
     count: usize,
@@ -159,7 +161,7 @@ fn copy(packets: [Waiting; 32], n: usize, pool: &[u8], size: usize, out: &mut [u
 }
 
 // The packets that wait on, at the front of `waiting`, and how many they are.
-#[derive(Drop)]
+#[derive(Clone, Copy)]
 struct Left {
     waiting: [Waiting; 32],
     count: usize,

@@ -1,5 +1,7 @@
 // The examples of FIPS 197 for AES-128, in hex: the key expansion of appendix A.1 and the blocks of B and C.1.
 // The file stdout has what the standard prints.
+#![tactic(auto)]
+
 use libc::STDOUT_FILENO;
 
 // The key of A.1 and B.
