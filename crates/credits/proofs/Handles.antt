@@ -1,6 +1,6 @@
 -- Lists of handles: which stand in a list and how many times, after one is added, taken or left out. For the proof that book and
 -- state agree.
-use mathlib.Core.Path.{◌≡◌, refl, sym, ◌∙◌, ap}
+use mathlib.Core.Path.{◌≡◌, refl, sym, ◌∙◌, ap, subst}
 use mathlib.Core.Bool.{Bool, true, false, cond, ◌||◌}
 use mathlib.Core.List.{List, [], ◌∷◌, ◌++◌}
 use Prim.Native.Nat.{ℕ, suc, ◌+◌, ◌-◌, ◌≤◌, ◌<◌, min}
@@ -118,8 +118,10 @@ length_sum n (x ∷ l) b = omega (
   sum_cong n (λ k. times k (x ∷ l)) (put (λ k. times k l) x (times x l + 1)) each,
 )
   where
+    here : times x (x ∷ l) ≡ put (λ k. times k l) x (times x l + 1) x
+    here = rw (eq-eqb x x refl) (omega arith)
     each : (k : ℕ) → times k (x ∷ l) ≡ put (λ k. times k l) x (times x l + 1) k
     each k =
         cases (eqb k x)
-        (λ e. let same : k ≡ x = eqb-true k x e in rw (same, eq-eqb x x refl) (omega arith))
+        (λ e. subst (λ (z : ℕ). times z (x ∷ l) ≡ put (λ k. times k l) x (times x l + 1) z) (sym (eqb-true k x e)) here)
         (λ e. rw (e, ne_eqb x k (λ y. eqb-false k x e (sym y))))

@@ -3,10 +3,6 @@
 use mathlib.Core.Path.{◌≡◌, refl, sym, ap}
 use Prim.Native.Nat.{ℕ, ◌+◌, ◌-◌, ◌*◌, ◌/◌, ◌%◌, ◌≤◌, ◌<◌}
 use mathlib.Core.List.{List, [], ◌∷◌}
-use mathlib.Core.Logic.{⊎_elim}
-use types.Run.{OneOf}
-use denote.Enum.Declared.{tag_of}
-use Rattle.hci.specs.contracts.read.AclRead.{the_type}
 use mathlib.Core.Bool.{Bool, true, false, cond}
 use lib.ListN.{length, take, drop}
 use lib.Dec.{ltb, eqb}
@@ -129,12 +125,12 @@ acl_tells p {it} e = go (ltb (length p) 5) refl (eqb (octet p 0) 2) refl (ltb (l
           present = omega (arith, ltb-false (length p) 5 a, ltb-false (length p - 5) (word p 3) d, n);
         }
 
--- a packet that is none of these was not read
-pub not_read : (r : AclRead) → OneOf (1 ∷ 2 ∷ 3 ∷ []) (tag_of the_type r) → is_whole r ≡ false
-not_read (acl.Whole it) k = ⊎_elim (λ e. absurd (omega arith)) (⊎_elim (λ e. absurd (omega arith)) (λ e. absurd (omega arith))) k
-not_read acl.ShortHeader k = refl
-not_read acl.NotAcl k = refl
-not_read acl.ShortData k = refl
+-- a packet that is not whole was not read
+pub not_read : (r : AclRead) → ((it : Acl) → r ≡ acl.Whole it → ⊥) → is_whole r ≡ false
+not_read (acl.Whole it) f = absurd (f it refl)
+not_read acl.ShortHeader f = refl
+not_read acl.NotAcl f = refl
+not_read acl.ShortData f = refl
 
 -- the ways `acl_data` and `acl_parts` end
 module _ (p : List ℕ) where

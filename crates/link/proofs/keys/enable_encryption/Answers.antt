@@ -1,0 +1,20 @@
+-- `link::keys::enable_encryption` meets its contract.
+use mathlib.Core.Path.{ap}
+use mathlib.Core.Bool.{not}
+use borrow.Author.Tests.{not-true, not-false}
+use borrow.Author.Rules.{rules}
+use Rattle.commands.specs.Link.{enable_encryption}
+use Rattle.commands.proofs.Giving.{answered, answered_then}
+use Rattle.link.proofs.keys.enable_encryption.Goals as goal
+
+pub returns-then-not-has : goal.returns-then-not-has
+unfolding enable_encryption
+returns-then-not-has c =
+        answered c.status.ensures
+    (rw (← c.word_at-handle.ensures, ← c.has.ensures, not-true c.has.result (ap not c.if-not-has.true)))
+
+pub returns : goal.returns
+unfolding enable_encryption
+returns c =
+        answered_then c.followed_by_encryption_change.ensures c.status-answer.ensures
+    (rw (← c.word_at-handle.ensures, ← c.has.ensures, not-false c.has.result (ap not c.if-not-has.false)))

@@ -1,0 +1,10 @@
+-- `links::hold::one_if_equal` meets its contract.
+use borrow.Author.Tests.{eq-eqb, ne_eqb}
+use borrow.Author.Rules.{rules}
+use Rattle.links.proofs.hold.one_if_equal.Goals as goal
+
+pub returns-then-a-b : goal.returns-then-a-b
+returns-then-a-b c = (rw (eq-eqb _ _ c.if-a-b.true), search rules)
+
+pub returns-else-a-b : goal.returns-else-a-b
+returns-else-a-b c = (rw (ne_eqb _ _ c.if-a-b.false), search rules)

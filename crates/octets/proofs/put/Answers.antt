@@ -1,0 +1,20 @@
+-- `octets::put` meets its contract: after j turns the first j octets of `src` are written.
+use mathlib.Core.Path.{refl}
+use Prim.Native.Nat.{◌-◌}
+use native.Mathlib.Omega.{arith}
+use lib.ListN.{length}
+use Rattle.octets.proofs.Copying.{Copying, begin, turn, end}
+use Rattle.octets.proofs.put.Goals as goal
+
+pub loop-j-init : goal.loop-j-init
+loop-j-init c = begin _ _ _
+
+pub loop-j-preserved : goal.loop-j-preserved
+loop-j-preserved c =
+        turn c.loop-j.invariant c.requires c.loop-j-test.true refl
+
+pub shape_of-out : goal.shape_of-out
+shape_of-out c = c.loop-j.invariant.long
+
+pub returns : goal.returns
+returns c = end c.loop-j.invariant c.requires c.loop-j-test.false

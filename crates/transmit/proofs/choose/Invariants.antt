@@ -1,0 +1,16 @@
+-- `transmit::choose` meets its contract: after i turns the packets to be taken of the first i are gathered and measured.
+use mathlib.Core.Logic.{⊎_elim}
+use mathlib.Core.Path.{◌≡◌}
+use Prim.Native.Nat.{◌-◌}
+use native.Mathlib.Omega.{arith}
+use lib.ListN.{length}
+use borrow.Author.Rules.{rules}
+use Rattle.lists.proofs.Copying.{length_of_map}
+use Rattle.transmit.proofs.Choosing.{Choosing, choose_none, choose_more, choose_same, choose_end}
+use Rattle.transmit.proofs.choose.Given as goal
+
+abbrev pub invariant-loop-i : goal.invariant-loop-i
+invariant-loop-i l = Choosing l.waiting l.n l.handle l.max l.packets l.count l.len l.i
+
+abbrev pub decreases-loop-i : goal.decreases-loop-i
+decreases-loop-i l = l.n - l.i

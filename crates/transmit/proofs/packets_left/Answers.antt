@@ -1,0 +1,31 @@
+-- `transmit::packets_left` meets its contract: after i turns what is left of the first i packets is kept.
+use mathlib.Core.Logic.{⊎_elim}
+use mathlib.Core.Path.{◌≡◌}
+use Prim.Native.Nat.{◌-◌}
+use native.Mathlib.Omega.{arith}
+use lib.ListN.{length}
+use borrow.Author.Rules.{rules}
+use Rattle.lists.proofs.Copying.{length_of_map}
+use Rattle.transmit.proofs.Choosing.{Removing, remove_none, remove_take, remove_keep, remove_end}
+use Rattle.transmit.proofs.packets_left.Goals.{else-takes, then-takes}
+use Rattle.transmit.proofs.packets_left.Goals as goal
+
+pub loop-i-init : goal.loop-i-init
+loop-i-init c =
+    let long : length c.args.waiting ≡ 32 = search (rules, length_of_map) in
+    remove_none _ _ _ _ (omega arith)
+
+pub loop-i-preserved : goal.loop-i-preserved
+loop-i-preserved c =
+    let l = c.loop-i in
+    let more = c.loop-i-test.true in
+    let f = c.takes in
+    elim c.if-takes.branch [
+      then-takes w ↦
+        rw (w.left-is, w.k-is, w.taken-is) (remove_take _ l.invariant more f.ensures w.if-takes.true)
+    | else-takes w ↦
+        rw (w.left-is, w.k-is, w.taken-is) (remove_keep _ l.invariant more f.ensures w.if-takes.false)
+    ]
+
+pub returns : goal.returns
+returns c = remove_end c.loop-i.invariant c.loop-i-test.false
