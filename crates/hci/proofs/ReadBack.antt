@@ -1,7 +1,7 @@
 -- What `acl` writes, `acl_parts` and `acl_data` read back, whatever octets follow it; and what an opcode is made of. For
 -- readers who want to see that readers and writers belong together.
 use mathlib.Core.Path.{◌≡◌, refl, sym}
-use Prim.Native.Nat.{ℕ, ◌+◌, ◌-◌, ◌*◌, ◌/◌, ◌%◌, ◌≤◌, ◌<◌}
+use Prim.Native.Nat.{ℕ, ◌+◌, ◌*◌, ◌/◌, ◌%◌, ◌≤◌, ◌<◌}
 use mathlib.Core.List.{List, ◌++◌, Memᴰ}
 use mathlib.Core.Bool.{true}
 use lib.ListN.{length, length-append}

@@ -5,14 +5,11 @@ use Prim.Native.Nat.{ℕ, ◌+◌, ◌-◌}
 use mathlib.Core.List.{List, [], ◌∷◌}
 use lib.ListN.{length, take, drop}
 use native.Mathlib.Omega.{arith}
-use types.Run.{OneOf}
-use denote.Enum.Declared.{tag_of}
 use Rattle.octets.specs.Octets.{octet}
 use Rattle.hci.specs.Read.{parse_command}
 use Rattle.hci.specs.declared.read.Command.{Command}
 use Rattle.hci.specs.declared.read.CommandRead.{CommandRead}
 use Rattle.hci.specs.declared.read.CommandRead.TheVariants as command
-use Rattle.hci.specs.contracts.read.CommandRead.{the_type}
 use Rattle.hci.proofs.Readers.{command_tells}
 use Rattle.profile.specs.Profile.{row_answer}
 use Rattle.dispatch.specs.declared.Part.{Part}
@@ -32,8 +29,8 @@ parameters_read p {it} read =
     let long : 4 + it.len - 4 ≡ octet p 3 = omega (arith, (command_tells p read).long) in
     rw (read, long)
 
-pub parameters_none : (p : List ℕ) (r : CommandRead) → OneOf (1 ∷ 2 ∷ 3 ∷ []) (tag_of the_type r) → [] ≡ parameters_of r p
-parameters_none p (command.Whole it) k = ⊎_elim (λ e. absurd (omega arith)) (⊎_elim (λ e. absurd (omega arith)) (λ e. absurd (omega arith))) k
+pub parameters_none : (p : List ℕ) (r : CommandRead) → ((it : Command) → r ≡ command.Whole it → ⊥) → [] ≡ parameters_of r p
+parameters_none p (command.Whole it) k = absurd (k it refl)
 parameters_none p command.ShortHeader k = refl
 parameters_none p command.NotCommand k = refl
 parameters_none p command.ShortParameters k = refl

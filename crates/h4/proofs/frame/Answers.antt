@@ -1,15 +1,9 @@
 -- `h4::frame` meets its contract: when the loop has come to an index, the octets before it are whole packets.
-use Prim.Native.Nat.{◌-◌}
 use mathlib.Core.Path.{sym, ◌∙◌}
-use lib.ListN.{length}
 use native.Mathlib.Omega.{arith}
-use borrow.Author.Rules.{rules}
 use Rattle.h4.proofs.Reading.{packet_size}
-use Rattle.h4.proofs.Framing.{Framing, begin, turn, ends_short, ends_more, ends_lost, ends_all}
+use Rattle.h4.proofs.Framing.{turn, ends_short, ends_more, ends_lost, ends_all}
 use Rattle.h4.proofs.frame.Goals as goal
-
-pub loop-at-init : goal.loop-at-init
-loop-at-init c = begin _
 
 pub returns-then-bytes-at : goal.returns-then-bytes-at
 returns-then-bytes-at c =

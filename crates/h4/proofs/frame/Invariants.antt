@@ -1,11 +1,7 @@
 -- `h4::frame` meets its contract: when the loop has come to an index, the octets before it are whole packets.
 use Prim.Native.Nat.{◌-◌}
-use mathlib.Core.Path.{sym, ◌∙◌}
 use lib.ListN.{length}
-use native.Mathlib.Omega.{arith}
-use borrow.Author.Rules.{rules}
-use Rattle.h4.proofs.Reading.{packet_size}
-use Rattle.h4.proofs.Framing.{Framing, begin, turn, ends_short, ends_more, ends_lost, ends_all}
+use Rattle.h4.proofs.Framing.{Framing}
 use Rattle.h4.proofs.frame.Given as goal
 
 abbrev pub invariant-loop-at : goal.invariant-loop-at

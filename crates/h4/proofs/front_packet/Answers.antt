@@ -1,17 +1,11 @@
 -- `h4::front_packet` meets its contract.
 use mathlib.Core.Path.{sym, ◌∙◌}
-use native.Mathlib.Omega.{arith}
-use borrow.Author.Rules.{rules}
-use lib.Seq.{length-take-le}
 use Rattle.h4.proofs.Reading.{whole_packet, whole_short, whole_other}
 use Rattle.h4.proofs.front_packet.Goals as goal
 
 pub returns-then-bytes-n : goal.returns-then-bytes-n
 returns-then-bytes-n c =
     rw (whole_short _ c.in-Packet.n (sym c.h4_packet_len.ensures ∙ c.in-Packet.is) c.if-bytes-n.true)
-
-pub slice_bounds-result-end-in-Packet : goal.slice_bounds-result-end-in-Packet
-slice_bounds-result-end-in-Packet c = sym (length-take-le _ _ c.if-bytes-n.false)
 
 pub returns-else-bytes-n : goal.returns-else-bytes-n
 returns-else-bytes-n c =

@@ -1,7 +1,6 @@
 -- `h4::h4_packet_len` meets its contract: each arm is the definition at its indicator.
 use mathlib.Core.Path.{◌≡◌, ◌∙◌}
 use native.Mathlib.Omega.{arith}
-use borrow.Author.Rules.{rules}
 use borrow.Author.Tests.{eq-eqb, ne_eqb}
 use Prim.Native.Nat.{◌%◌}
 use lib.ListN.{get_or}
@@ -40,5 +39,5 @@ pub returns-in_default : goal.returns-in_default
 unfolding packet_length by_indicator
 returns-in_default c =
     let i = get_or c.args.bytes.now 0 0 in
-    simp (ne_eqb _ _ c.if-bytes-eq0.false, ne_eqb i 1 (λ e. omega arith), ne_eqb i 2 (λ e. omega arith), ne_eqb i 3 (λ e. omega arith),
-    ne_eqb i 4 (λ e. omega arith), ne_eqb i 5 (λ e. omega arith))
+    simp (ne_eqb _ _ c.if-bytes-eq0.false, ne_eqb i 1 (λ e. omega arith), ne_eqb i 2 (λ e. omega arith),
+    ne_eqb i 3 (λ e. omega arith), ne_eqb i 4 (λ e. omega arith), ne_eqb i 5 (λ e. omega arith))

@@ -1,13 +1,8 @@
 -- `hci::first_opcode` meets its contract: the opcodes passed are all others.
-use mathlib.Core.Path.{◌≡◌, ◌∙◌}
 use Prim.Native.Nat.{◌≤◌, ◌-◌}
-use native.Mathlib.Omega.{arith}
 use lib.Dec.{eqb}
 use lib.ListN.{length, take}
-use lib.Seq.{take-length}
-use borrow.Author.Tests.{eq-eqb, ne_eqb}
-use Rattle.lists.proofs.Search.{Searching, first_here, first_skip, first_end}
-use borrow.Author.Rules.{rules}
+use Rattle.lists.proofs.Search.{Searching}
 use Rattle.hci.proofs.first_opcode.Given as goal
 
 abbrev pub invariant-loop-i : goal.invariant-loop-i

@@ -2,7 +2,6 @@
 use mathlib.Core.Path.{sym}
 use Rattle.lists.proofs.Tests.{any_first}
 use Rattle.hci.specs.Opcode.{is_async, async_opcodes}
-use borrow.Author.Rules.{rules}
 use Rattle.hci.proofs.is_async.Goals as goal
 
 pub returns : goal.returns

@@ -1,18 +1,16 @@
 -- `answers_fit` meets its contract: the greatest answer so far and the answers left say whether each is at most 2.
 use mathlib.Core.Path.{◌≡◌, sym, ◌∙◌}
 use mathlib.Core.List.{List}
-use mathlib.Core.Logic.{⊎_elim}
-use mathlib.Core.Bool.{◌&&◌, and-false, and-true}
-use Prim.Native.Nat.{ℕ, ◌≤◌, ◌<◌, ◌+◌, ◌-◌}
+use mathlib.Core.Bool.{and-false, and-true}
+use Prim.Native.Nat.{ℕ, ◌≤◌, ◌<◌, ◌+◌}
 use native.Mathlib.Omega.{arith}
 use native.Mathlib.Numerals.{add-one}
 use lib.Dec.{leb}
-use lib.ListN.{length, drop, get_or}
+use lib.ListN.{length, get_or}
 use lib.Seq.{drop-cons, drop-length}
 use borrow.Author.Tests.{le-leb, leb-true}
 use borrow.Table.Steps.{cases}
 use Rattle.lists.specs.Lists.{all}
-use borrow.Author.Rules.{rules}
 use Rattle.profile.proofs.answers_fit.Invariants.{Left}
 use Rattle.profile.proofs.answers_fit.Goals.{else-greatest-answer, then-greatest-answer}
 use Rattle.profile.proofs.answers_fit.Goals as goal

@@ -1,18 +1,11 @@
 -- `answers_fit` meets its contract: the greatest answer so far and the answers left say whether each is at most 2.
-use mathlib.Core.Path.{◌≡◌, sym, ◌∙◌}
+use mathlib.Core.Path.{◌≡◌}
 use mathlib.Core.List.{List}
-use mathlib.Core.Logic.{⊎_elim}
-use mathlib.Core.Bool.{◌&&◌, and-false, and-true}
-use Prim.Native.Nat.{ℕ, ◌≤◌, ◌<◌, ◌+◌, ◌-◌}
-use native.Mathlib.Omega.{arith}
-use native.Mathlib.Numerals.{add-one}
+use mathlib.Core.Bool.{◌&&◌}
+use Prim.Native.Nat.{ℕ, ◌≤◌, ◌-◌}
 use lib.Dec.{leb}
-use lib.ListN.{length, drop, get_or}
-use lib.Seq.{drop-cons, drop-length}
-use borrow.Author.Tests.{le-leb, leb-true}
-use borrow.Table.Steps.{cases}
+use lib.ListN.{length, drop}
 use Rattle.lists.specs.Lists.{all}
-use borrow.Author.Rules.{rules}
 use Rattle.profile.proofs.answers_fit.Given as goal
 
 -- each answer is at most 2 exactly if the greatest so far and those from index i on are

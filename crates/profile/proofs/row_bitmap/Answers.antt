@@ -1,10 +1,8 @@
 -- `profile::row_bitmap` meets its contract: the rows passed have set their bits.
-use Prim.Native.Nat.{◌≤◌, ◌<◌, ◌-◌}
-use mathlib.Core.Logic.{⊎_elim}
+use Prim.Native.Nat.{◌<◌}
 use native.Mathlib.Omega.{arith}
 use lib.ListN.{length}
-use Rattle.profile.proofs.Bitmap.{Setting, row_listed, row_unknown, rows_end}
-use borrow.Author.Rules.{rules}
+use Rattle.profile.proofs.Bitmap.{row_listed, row_unknown, rows_end}
 use Rattle.profile.proofs.row_bitmap.Goals.{else-answers-i-ne2, then-answers-i-ne2}
 use Rattle.profile.proofs.row_bitmap.Goals as goal
 
@@ -17,7 +15,8 @@ loop-i-preserved c =
     let hb : l.i < length b = omega arith in
     elim c.if-answers-i-ne2.branch
       [ then-answers-i-ne2 w ↦
-          (omega arith, rw (w.map-is, w.set_row_bit.ensures) (row_listed a b l.map l.i l.invariant.1 w.if-answers-i-ne2.true ha hb))
+          (omega arith, rw (w.map-is, w.set_row_bit.ensures)
+            (row_listed a b l.map l.i l.invariant.1 w.if-answers-i-ne2.true ha hb))
       | else-answers-i-ne2 w ↦
           (omega arith, rw w.map-is (row_unknown a b l.map l.i l.invariant.1 w.if-answers-i-ne2.false ha hb)) ]
 

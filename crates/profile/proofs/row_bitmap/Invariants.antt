@@ -1,10 +1,6 @@
 -- `profile::row_bitmap` meets its contract: the rows passed have set their bits.
-use Prim.Native.Nat.{◌≤◌, ◌<◌, ◌-◌}
-use mathlib.Core.Logic.{⊎_elim}
-use native.Mathlib.Omega.{arith}
-use lib.ListN.{length}
-use Rattle.profile.proofs.Bitmap.{Setting, row_listed, row_unknown, rows_end}
-use borrow.Author.Rules.{rules}
+use Prim.Native.Nat.{◌≤◌, ◌-◌}
+use Rattle.profile.proofs.Bitmap.{Setting}
 use Rattle.profile.proofs.row_bitmap.Given as goal
 
 abbrev pub invariant-loop-i : goal.invariant-loop-i

@@ -1,7 +1,6 @@
 -- `profile::rows_fit` meets its contract.
 use borrow.Author.Tests.{le-leb, lt-leb, eq-eqb, ne_eqb}
 use Rattle.profile.specs.Profile.{rows_fit}
-use borrow.Author.Rules.{rules}
 use Rattle.profile.proofs.rows_fit.Goals as goal
 
 pub returns-then-opcodes-answers : goal.returns-then-opcodes-answers

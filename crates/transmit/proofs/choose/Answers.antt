@@ -27,6 +27,3 @@ loop-i-preserved c =
     | else-takes w ↦
         rw (w.packets-is, w.count-is, w.len-is) (choose_same _ l.invariant more f.ensures w.if-takes.false)
     ]
-
-pub returns : goal.returns
-returns c = choose_end c.loop-i.invariant c.loop-i-test.false

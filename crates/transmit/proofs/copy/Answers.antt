@@ -19,9 +19,3 @@ copy_one-at-requires c = copy_fits _ c.loop-i.invariant c.loop-i-test.true
 
 pub loop-i-preserved : goal.loop-i-preserved
 loop-i-preserved c = copy_more _ c.loop-i.invariant c.loop-i-test.true c.copy_one-at.ensures
-
-pub shape_of-out : goal.shape_of-out
-shape_of-out c = put_long c.loop-i.invariant.copied
-
-pub returns : goal.returns
-returns c = copy_end c.loop-i.invariant c.loop-i-test.false

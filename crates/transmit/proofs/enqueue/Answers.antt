@@ -18,34 +18,6 @@ free_place-place-requires c =
       placed = all_below c.args.places c.args.size _ fits.most fits.held.fit;
     }
 
-pub overflow_mul-place : goal.overflow_mul-place
-overflow_mul-place c =
-    let a = c.args in
-    let f = c.free_place-place in
-    let b = queue_room c.requires f.ensures in
-    omega arith
-
-pub slice_bounds-put-end : goal.slice_bounds-put-end
-slice_bounds-put-end c =
-    sym (length-take-le c.args.n c.args.packet.now c.requires.given)
-
-pub put-requires : goal.put-requires
-put-requires c =
-    let a = c.args in
-    let f = c.free_place-place in
-    let b = queue_room c.requires f.ensures in
-    simp (length-take-le a.n a.packet.now c.requires.given) b
-
-pub overflow_cast-own : goal.overflow_cast-own
-overflow_cast-own c =
-    let a = c.args in
-    let f = c.free_place-place in
-    let b = queue_place c.requires f.ensures in
-    omega (arith, c.requires.fits.most)
-
-pub shape_of-pool : goal.shape_of-pool
-shape_of-pool c = put_long c.put.ensures
-
 pub returns : goal.returns
 returns c =
     let a = c.args in

@@ -18,7 +18,8 @@ pub loop-place-preserved : goal.loop-place-preserved
 loop-place-preserved c =
     let l = c.loop-place in
     let a = c.args in
-    (omega arith, first_skip a.marks.now a.n is_free l.place 0 l.invariant.1 (ne_eqb _ _ c.if-marks-place-eq0.false) (omega arith) (omega arith))
+    let taken = ne_eqb _ _ c.if-marks-place-eq0.false in
+    (omega arith, first_skip a.marks.now a.n is_free l.place 0 l.invariant.1 taken (omega arith) (omega arith))
 
 pub returns : goal.returns
 returns c =

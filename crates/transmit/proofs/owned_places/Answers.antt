@@ -26,8 +26,3 @@ loop-i-preserved c =
       marks_more c.args.waiting l.marks l.i _ l.invariant.1
           (marked_below c.args.waiting c.args.n l.i _ c.requires (omega arith) (omega arith)) (omega (arith, c.requires.few)),
     )
-
-pub returns : goal.returns
-returns c =
-    let e : c.loop-i.i ≡ c.args.n = omega arith in
-    rw e at c.loop-i.invariant.1

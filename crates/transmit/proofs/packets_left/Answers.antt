@@ -10,11 +10,6 @@ use Rattle.transmit.proofs.Choosing.{Removing, remove_none, remove_take, remove_
 use Rattle.transmit.proofs.packets_left.Goals.{else-takes, then-takes}
 use Rattle.transmit.proofs.packets_left.Goals as goal
 
-pub loop-i-init : goal.loop-i-init
-loop-i-init c =
-    let long : length c.args.waiting ≡ 32 = search (rules, length_of_map) in
-    remove_none _ _ _ _ (omega arith)
-
 pub loop-i-preserved : goal.loop-i-preserved
 loop-i-preserved c =
     let l = c.loop-i in

@@ -7,12 +7,6 @@ use Rattle.commands.specs.Following.{le_meta_event}
 use Rattle.commands.proofs.Followed.{follows}
 use Rattle.commands.proofs.events.followed_by_le.Goals as goal
 
-pub slice_bounds-followed_by_event-end : goal.slice_bounds-followed_by_event-end
-slice_bounds-followed_by_event-end c = sym (put_front_long c.put_two-n.ensures)
-
-pub followed_by_event-requires : goal.followed_by_event-requires
-followed_by_event-requires c = omega (arith, put_front_long c.put_two-n.ensures)
-
 pub returns : goal.returns
 unfolding le_meta_event
 returns c =

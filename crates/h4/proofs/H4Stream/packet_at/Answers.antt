@@ -1,15 +1,8 @@
 -- `h4::H4Stream::packet_at` meets its contract.
-use mathlib.Core.Path.{sym, ◌∙◌}
-use lib.ListN.{take, length-take}
+use mathlib.Core.Path.{◌∙◌}
 use native.Mathlib.Omega.{arith}
-use borrow.Author.Rules.{rules}
-use Rattle.h4.proofs.Handing.{packet_past, packet_lent}
+use Rattle.h4.proofs.Handing.{packet_lent}
 use Rattle.h4.proofs.H4Stream.packet_at.Goals as goal
-
-pub returns-then-end-at : goal.returns-then-end-at
-returns-then-end-at c =
-    let a = c.args in
-    sym (packet_past (take a.self.ready a.buffer.now) a.at (simp length-take (omega arith)))
 
 pub returns : goal.returns
 returns c =

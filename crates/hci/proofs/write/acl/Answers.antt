@@ -1,7 +1,6 @@
 -- `hci::acl` meets its contract.
 use native.Mathlib.Omega.{arith}
 use Rattle.hci.proofs.Writers.{too_long, within}
-use borrow.Author.Rules.{rules}
 use Rattle.hci.proofs.write.acl.Goals as goal
 
 pub returns-then-n-gt65535 : goal.returns-then-n-gt65535

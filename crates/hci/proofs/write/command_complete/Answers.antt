@@ -1,7 +1,6 @@
 -- `hci::command_complete` meets its contract.
 use native.Mathlib.Omega.{arith}
 use Rattle.hci.proofs.Writers.{too_long, as_event}
-use borrow.Author.Rules.{rules}
 use Rattle.hci.proofs.write.command_complete.Goals as goal
 
 pub returns-then-n-gt252 : goal.returns-then-n-gt252

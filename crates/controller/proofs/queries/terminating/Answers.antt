@@ -1,0 +1,14 @@
+-- `queries::terminating` meets its contract: the reason of a Disconnect that waits.
+use borrow.Author.Rules.{rules}
+use Rattle.controller.proofs.Asking.{state_asked}
+use Rattle.controller.proofs.Finding.{finds_none, finds}
+use Rattle.controller.proofs.queries.terminating.Goals as goal
+
+pub returns-then-number-ne0 : goal.returns-then-number-ne0
+returns-then-number-ne0 c = finds_none (rw c.holds-held.ensures at c.about_state-number.ensures) c.if-number-ne0.true
+
+pub terminating-reason-requires : goal.terminating-reason-requires
+terminating-reason-requires c = (state_asked c.args.profile c.args.s (rw c.holds-held.ensures at c.about_state-number.ensures) c.if-number-ne0.false).held.links.few_links
+
+pub returns : goal.returns
+returns c = finds (rw c.holds-held.ensures at c.about_state-number.ensures) c.if-number-ne0.false (λ size pool. c.terminating-reason.ensures)

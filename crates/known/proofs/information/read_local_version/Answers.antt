@@ -1,0 +1,10 @@
+-- `known::information::read_local_version` meets its contract.
+use mathlib.Core.Path.{refl}
+use borrow.Author.Rules.{rules}
+use Rattle.commands.specs.Known.{read_local_version}
+use Rattle.commands.proofs.Giving.{answered}
+use Rattle.known.proofs.information.read_local_version.Goals as goal
+
+pub returns : goal.returns
+unfolding read_local_version
+returns c = answered c.complete.ensures refl

@@ -1,0 +1,18 @@
+-- `notices::opening::open_connection` meets its contract.
+use mathlib.Core.Path.{refl}
+use Rattle.links.specs.Links.{new_connection, opened_last}
+use Rattle.links.proofs.Keeping.{opened_holds}
+use Rattle.commands.proofs.Giving.{answered}
+use Rattle.notices.specs.Notices.{open_connection}
+use Rattle.notices.proofs.Giving.{gives_links}
+use borrow.Author.Rules.{rules}
+use Rattle.notices.proofs.opening.open_connection.Goals as goal
+
+pub returns : goal.returns
+unfolding open_connection
+returns c k held =
+        let args = c.args in
+    let new = new_connection args.handle args.interval args.latency args.timeout in
+    gives_links (opened_last new) c.open_connection-links.ensures.viewed
+    (opened_holds args.s.links held.links new c.requires.2 c.open_connection-links.ensures.lists)
+    (answered c.silent-answer.ensures refl) (λ size pool. refl) held
