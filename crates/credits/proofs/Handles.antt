@@ -120,6 +120,7 @@ length_sum n (x ∷ l) b = omega (
   where
     here : times x (x ∷ l) ≡ put (λ k. times k l) x (times x l + 1) x
     here = rw (eq-eqb x x refl) (omega arith)
+
     each : (k : ℕ) → times k (x ∷ l) ≡ put (λ k. times k l) x (times x l + 1) k
     each k =
         cases (eqb k x)

@@ -5,4 +5,4 @@ use Rattle.aes.proofs.add_round_key.Goals as goal
 
 pub returns : goal.returns
 returns c =
-        each c.add_word.ensures c.add_word-2.ensures c.add_word-3.ensures c.add_word-4.ensures
+    each c.add_word.ensures c.add_word-2.ensures c.add_word-3.ensures c.add_word-4.ensures

@@ -17,12 +17,12 @@ one_more s w i = rw add-one
 
 pub loop-i-preserved : goal.loop-i-preserved
 loop-i-preserved c =
-        (omega arith, c.one_round-t.ensures ∙ ap₂ round c.loop-i.invariant.1 c.round_key-in-loop-i.ensures ∙ one_more _ _ c.loop-i.i)
+    (omega arith, c.one_round-t.ensures ∙ ap₂ round c.loop-i.invariant.1 c.round_key-in-loop-i.ensures ∙ one_more _ _ c.loop-i.i)
 
 pub returns : goal.returns
 unfolding aes128 cipher
 returns c =
-        let i : c.loop-i.i ≡ 9 = omega arith in
+    let i : c.loop-i.i ≡ 9 = omega arith in
     let w = c.key_expansion-w.ensures in
     let first =
     c.add_round_key-s.ensures

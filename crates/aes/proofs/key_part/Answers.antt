@@ -8,7 +8,7 @@ use Rattle.aes.proofs.key_part.Goals as goal
 pub returns-then-i-eq0 : goal.returns-then-i-eq0
 unfolding key_part
 returns-then-i-eq0 c =
-        rw (eq-eqb _ _ c.if-i-eq0.true)
+    rw (eq-eqb _ _ c.if-i-eq0.true)
     (c.add_word.ensures
     ∙ ap₂ add_word (c.sub_word.ensures ∙ ap sub_word c.rot_word.ensures) c.round_constant.ensures)
 

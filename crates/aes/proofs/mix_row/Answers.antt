@@ -5,4 +5,4 @@ use Rattle.aes.proofs.mix_row.Goals as goal
 
 pub returns : goal.returns
 returns c =
-        each c.mix_octet.ensures c.mix_octet-2.ensures c.mix_octet-3.ensures c.mix_octet-4.ensures
+    each c.mix_octet.ensures c.mix_octet-2.ensures c.mix_octet-3.ensures c.mix_octet-4.ensures

@@ -9,6 +9,6 @@ use Rattle.aes.proofs.one_round.Goals as goal
 pub returns : goal.returns
 unfolding round
 returns c =
-        c.add_round_key.ensures
+    c.add_round_key.ensures
     ∙ ap (λ (s : List (List ℕ)). add_round_key s c.args.k)
     (c.mix_columns.ensures ∙ ap mix_columns (c.shift_rows.ensures ∙ ap shift_rows c.sub_bytes.ensures))

@@ -5,4 +5,4 @@ use Rattle.aes.proofs.sub_word.Goals as goal
 
 pub returns : goal.returns
 returns c =
-        each c.sub_byte.ensures c.sub_byte-2.ensures c.sub_byte-3.ensures c.sub_byte-4.ensures
+    each c.sub_byte.ensures c.sub_byte-2.ensures c.sub_byte-3.ensures c.sub_byte-4.ensures

@@ -39,5 +39,11 @@ pub returns-in_default : goal.returns-in_default
 unfolding packet_length by_indicator
 returns-in_default c =
     let i = get_or c.args.bytes.now 0 0 in
-    simp (ne_eqb _ _ c.if-bytes-eq0.false, ne_eqb i 1 (λ e. omega arith), ne_eqb i 2 (λ e. omega arith),
-    ne_eqb i 3 (λ e. omega arith), ne_eqb i 4 (λ e. omega arith), ne_eqb i 5 (λ e. omega arith))
+    simp (
+      ne_eqb _ _ c.if-bytes-eq0.false,
+      ne_eqb i 1 (λ e. omega arith),
+      ne_eqb i 2 (λ e. omega arith),
+      ne_eqb i 3 (λ e. omega arith),
+      ne_eqb i 4 (λ e. omega arith),
+      ne_eqb i 5 (λ e. omega arith),
+    )

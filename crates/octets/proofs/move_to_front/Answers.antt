@@ -33,7 +33,7 @@ loop-j-init c = begin _ _ _
 
 pub loop-j-preserved : goal.loop-j-preserved
 loop-j-preserved c =
-        move_turn _ _ c.loop-j.invariant c.requires c.loop-j-test.true
+    move_turn _ _ c.loop-j.invariant c.requires c.loop-j-test.true
 
 pub returns : goal.returns
 returns c = move_end _ _ c.loop-j.invariant c.requires c.loop-j-test.false

@@ -11,7 +11,7 @@ loop-j-init c = begin _ _ _
 
 pub loop-j-preserved : goal.loop-j-preserved
 loop-j-preserved c =
-        turn c.loop-j.invariant c.requires c.loop-j-test.true refl
+    turn c.loop-j.invariant c.requires c.loop-j-test.true refl
 
 pub shape_of-out : goal.shape_of-out
 shape_of-out c = c.loop-j.invariant.long

@@ -45,11 +45,12 @@ loop-i-preserved c =
     let l = c.loop-i in
     let answers = c.args.answers.now in
     let h : l.i < length answers = omega arith in
-    elim c.if-greatest-answer.branch
-      [ then-greatest-answer w ↦
+    elim c.if-greatest-answer.branch [
+      | then-greatest-answer w ↦
           (omega arith, rw w.greatest-is (above answers l.greatest l.i l.invariant.1 w.if-greatest-answer.true h))
       | else-greatest-answer w ↦
-          (omega arith, rw w.greatest-is (below answers l.greatest l.i l.invariant.1 w.if-greatest-answer.false h)) ]
+          (omega arith, rw w.greatest-is (below answers l.greatest l.i l.invariant.1 w.if-greatest-answer.false h))
+    ]
 
 pub returns : goal.returns
 unfolding all

@@ -13,12 +13,15 @@ loop-i-preserved c =
     let b = c.args.bits.now in
     let ha : l.i < length a = omega arith in
     let hb : l.i < length b = omega arith in
-    elim c.if-answers-i-ne2.branch
-      [ then-answers-i-ne2 w ↦
-          (omega arith, rw (w.map-is, w.set_row_bit.ensures)
-            (row_listed a b l.map l.i l.invariant.1 w.if-answers-i-ne2.true ha hb))
+    elim c.if-answers-i-ne2.branch [
+      | then-answers-i-ne2 w ↦ (
+        omega arith,
+        rw (w.map-is, w.set_row_bit.ensures)
+            (row_listed a b l.map l.i l.invariant.1 w.if-answers-i-ne2.true ha hb),
+      )
       | else-answers-i-ne2 w ↦
-          (omega arith, rw w.map-is (row_unknown a b l.map l.i l.invariant.1 w.if-answers-i-ne2.false ha hb)) ]
+          (omega arith, rw w.map-is (row_unknown a b l.map l.i l.invariant.1 w.if-answers-i-ne2.false ha hb))
+    ]
 
 pub returns : goal.returns
 returns c =

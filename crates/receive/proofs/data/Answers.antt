@@ -19,7 +19,7 @@ use Rattle.receive.proofs.data.Goals as goal
 
 pub returns-then-not-has_link : goal.returns-then-not-has_link
 returns-then-not-has_link c =
-        let k = c.args.profile in
+    let k = c.args.profile in
     let header = sym c.parse-read.ensures ∙ c.in-Whole.is in
     let m = view c.args.s (place_size k) c.args.pool.now in
     let unlinked = sym c.has_link.ensures ∙ c.if-not-has_link.true in
@@ -27,7 +27,7 @@ returns-then-not-has_link c =
 
 pub returns-then-header-profile : goal.returns-then-header-profile
 returns-then-header-profile c =
-        let k = c.args.profile in
+    let k = c.args.profile in
     let header = sym c.parse-read.ensures ∙ c.in-Whole.is in
     let m = view c.args.s (place_size k) c.args.pool.now in
     let linked = sym c.has_link.ensures ∙ c.if-not-has_link.false in
@@ -35,11 +35,11 @@ returns-then-header-profile c =
 
 pub buffers_in_use-requires : goal.buffers_in_use-requires
 buffers_in_use-requires c =
-        c.requires.ready.holds.links.few_waiting
+    c.requires.ready.holds.links.few_waiting
 
 pub returns-then-buffers_in_use-places : goal.returns-then-buffers_in_use-places
 returns-then-buffers_in_use-places c =
-        let k = c.args.profile in
+    let k = c.args.profile in
     let header = sym c.parse-read.ensures ∙ c.in-Whole.is in
     let m = view c.args.s (place_size k) c.args.pool.now in
     let left = (ap not c.if-not-has_link.false) in
@@ -52,7 +52,7 @@ returns-then-buffers_in_use-places c =
 
 pub enqueue-waiting-requires : goal.enqueue-waiting-requires
 enqueue-waiting-requires c =
-        let header = sym c.parse-read.ensures ∙ c.in-Whole.is in
+    let header = sym c.parse-read.ensures ∙ c.in-Whole.is in
     let linked = sym c.has_link.ensures ∙ c.if-not-has_link.false in
     let links = c.args.s.links in
     let ready = c.requires.ready in
@@ -75,11 +75,11 @@ enqueue-waiting-requires c =
 
 pub overflow_add-after : goal.overflow_add-after
 overflow_add-after c =
-        omega (arith, c.requires.ready.holds.links.few_waiting)
+    omega (arith, c.requires.ready.holds.links.few_waiting)
 
 pub returns-else-buffers_in_use-places : goal.returns-else-buffers_in_use-places
 returns-else-buffers_in_use-places c =
-        let k = c.args.profile in
+    let k = c.args.profile in
     let header = sym c.parse-read.ensures ∙ c.in-Whole.is in
     let m = view c.args.s (place_size k) c.args.pool.now in
     let linked = sym c.has_link.ensures ∙ c.if-not-has_link.false in
@@ -90,15 +90,15 @@ returns-else-buffers_in_use-places c =
 
 pub returns-in-ShortHeader : goal.returns-in-ShortHeader
 returns-in-ShortHeader c =
-        let unread = sym c.parse-read.ensures ∙ c.in-ShortHeader.is in
+    let unread = sym c.parse-read.ensures ∙ c.in-ShortHeader.is in
     delivers_dropped c.requires.ready.holds (rw unread) c.dropped-in-ShortHeader.ensures
 
 pub returns-in-NotAcl : goal.returns-in-NotAcl
 returns-in-NotAcl c =
-        let unread = sym c.parse-read.ensures ∙ c.in-NotAcl.is in
+    let unread = sym c.parse-read.ensures ∙ c.in-NotAcl.is in
     delivers_dropped c.requires.ready.holds (rw unread) c.dropped-in-NotAcl.ensures
 
 pub returns-in-ShortData : goal.returns-in-ShortData
 returns-in-ShortData c =
-        let unread = sym c.parse-read.ensures ∙ c.in-ShortData.is in
+    let unread = sym c.parse-read.ensures ∙ c.in-ShortData.is in
     delivers_dropped c.requires.ready.holds (rw unread) c.dropped-in-ShortData.ensures

@@ -21,9 +21,9 @@ loop-i-preserved c =
     let more = c.loop-i-test.true in
     let f = c.takes in
     elim c.if-takes.branch [
-      then-takes w ↦
-        rw (w.packets-is, w.count-is, w.len-is)
-        (choose_more _ l.invariant more f.ensures w.if-takes.true (search rules))
-    | else-takes w ↦
-        rw (w.packets-is, w.count-is, w.len-is) (choose_same _ l.invariant more f.ensures w.if-takes.false)
+      | then-takes w ↦
+          rw (w.packets-is, w.count-is, w.len-is)
+          (choose_more _ l.invariant more f.ensures w.if-takes.true (search rules))
+      | else-takes w ↦
+          rw (w.packets-is, w.count-is, w.len-is) (choose_same _ l.invariant more f.ensures w.if-takes.false)
     ]

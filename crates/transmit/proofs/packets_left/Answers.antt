@@ -16,10 +16,10 @@ loop-i-preserved c =
     let more = c.loop-i-test.true in
     let f = c.takes in
     elim c.if-takes.branch [
-      then-takes w ↦
-        rw (w.left-is, w.k-is, w.taken-is) (remove_take _ l.invariant more f.ensures w.if-takes.true)
-    | else-takes w ↦
-        rw (w.left-is, w.k-is, w.taken-is) (remove_keep _ l.invariant more f.ensures w.if-takes.false)
+      | then-takes w ↦
+          rw (w.left-is, w.k-is, w.taken-is) (remove_take _ l.invariant more f.ensures w.if-takes.true)
+      | else-takes w ↦
+          rw (w.left-is, w.k-is, w.taken-is) (remove_keep _ l.invariant more f.ensures w.if-takes.false)
     ]
 
 pub returns : goal.returns

@@ -10,8 +10,8 @@ returns-then-not-within c = rw (failed c.within.ensures (ap not c.if-not-within.
 
 pub returns-then-not-within-2 : goal.returns-then-not-within-2
 returns-then-not-within-2 c =
-        rw (passed c.within.ensures (ap not c.if-not-within.false), failed c.within-2.ensures (ap not c.if-not-within-2.true))
+    rw (passed c.within.ensures (ap not c.if-not-within.false), failed c.within-2.ensures (ap not c.if-not-within-2.true))
 
 pub returns : goal.returns
 returns c =
-        rw (passed c.within.ensures (ap not c.if-not-within.false), passed c.within-2.ensures (ap not c.if-not-within-2.false))
+    rw (passed c.within.ensures (ap not c.if-not-within.false), passed c.within-2.ensures (ap not c.if-not-within-2.false))

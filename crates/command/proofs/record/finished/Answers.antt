@@ -10,11 +10,11 @@ use Rattle.command.proofs.record.finished.Goals as goal
 
 pub remembered-more-requires : goal.remembered-more-requires
 remembered-more-requires c =
-        (c.requires.few, c.requires.holds)
+    (c.requires.few, c.requires.holds)
 
 pub write_answer-written-requires : goal.write_answer-written-requires
 write_answer-written-requires c =
-        let a = c.args.answer in
+    let a = c.args.answer in
     let long : length a.octets ≡ 65 = search (rules, c.well_formed) in
     let long_then : length a.then ≡ 37 = search (rules, c.well_formed) in
     let short = c.requires.holds.short in
@@ -26,4 +26,4 @@ write_answer-written-requires c =
 
 pub returns : goal.returns
 returns c =
-        finishes_from (answer_of c.args.answer) c.args.counters c.args.settings c.args.recent c.remembered-more.result c.remembered-more.ensures c.write_answer-written.ensures
+    finishes_from (answer_of c.args.answer) c.args.counters c.args.settings c.args.recent c.remembered-more.result c.remembered-more.ensures c.write_answer-written.ensures

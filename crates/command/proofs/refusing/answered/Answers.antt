@@ -8,7 +8,7 @@ use Rattle.command.proofs.refusing.answered.Goals as goal
 
 pub finished-requires : goal.finished-requires
 finished-requires c =
-        let answer = c.answer_for-answer.ensures in
+    let answer = c.answer_for-answer.ensures in
     record {
       few = c.requires.0.holds.recent;
       holds = answer.shaped;
@@ -18,7 +18,7 @@ finished-requires c =
 
 pub returns : goal.returns
 returns c =
-        let reason = c.args.reason in
+    let reason = c.args.reason in
     let counted = c.counters_for-counters.ensures in
     let set = c.settings_for-settings.ensures in
     gave (reason_outcome reason c.args.profile c.args.op c.args.s counted set c.answer_for-answer.ensures)

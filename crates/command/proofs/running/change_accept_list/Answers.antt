@@ -11,7 +11,7 @@ accept_list-r-requires c = can_dispatch c.requires c.begun-t.ensures
 
 pub finished-noted-requires : goal.finished-noted-requires
 finished-noted-requires c =
-        let r = c.accept_list-r in
+    let r = c.accept_list-r in
     can_finish c.requires c.begun-t.ensures no_address 0 (put_accept_list r.result.accept_list) _ (r.ensures no_address 0) refl
 
 pub returns : goal.returns

@@ -11,7 +11,7 @@ resolving_list-r-requires c = can_dispatch c.requires c.begun-t.ensures
 
 pub finished-noted-requires : goal.finished-noted-requires
 finished-noted-requires c =
-        let r = c.resolving_list-r in
+    let r = c.resolving_list-r in
     can_finish c.requires c.begun-t.ensures no_address 0 (put_resolving_list r.result.resolving_list) _ (r.ensures no_address 0) refl
 
 pub returns : goal.returns

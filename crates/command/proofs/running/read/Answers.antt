@@ -11,9 +11,9 @@ read-answer-requires c = can_dispatch c.requires c.begun-t.ensures
 
 pub finished-requires : goal.finished-requires
 finished-requires c =
-        let long : length c.args.address ≡ 6 = search (rules, c.well_formed) in
+    let long : length c.args.address ≡ 6 = search (rules, c.well_formed) in
     can_finish c.requires c.begun-t.ensures c.args.address c.args.random no_part _ c.read-answer.ensures long
 
 pub returns : goal.returns
 returns c =
-        carried c.requires c.begun-t.ensures c.args.address c.args.random no_part _ c.read-answer.ensures c.finished.result refl c.finished.ensures
+    carried c.requires c.begun-t.ensures c.args.address c.args.random no_part _ c.read-answer.ensures c.finished.result refl c.finished.ensures

@@ -11,7 +11,7 @@ advertising-r-requires c = can_dispatch c.requires c.begun-t.ensures
 
 pub finished-noted-requires : goal.finished-noted-requires
 finished-noted-requires c =
-        let r = c.advertising-r in
+    let r = c.advertising-r in
     can_finish c.requires c.begun-t.ensures no_address 0 (put_advertising r.result.advertising) _ (r.ensures no_address 0) refl
 
 pub returns : goal.returns

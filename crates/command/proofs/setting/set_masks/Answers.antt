@@ -11,7 +11,7 @@ masks-masks-requires c = can_dispatch c.requires c.begun-t.ensures
 
 pub finished-noted-requires : goal.finished-noted-requires
 finished-noted-requires c =
-        let begun = c.begun-t.ensures in
+    let begun = c.begun-t.ensures in
     can_finish c.requires begun no_address 0 (put_masks c.masks-masks.result) _ (sets_masks (can_dispatch c.requires begun).0 c.done-answer.ensures (c.masks-masks.ensures no_address 0)) refl
 
 pub returns : goal.returns

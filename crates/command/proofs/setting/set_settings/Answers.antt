@@ -11,7 +11,7 @@ settings-r-requires c = can_dispatch c.requires c.begun-t.ensures
 
 pub finished-requires : goal.finished-requires
 finished-requires c =
-        let r = c.settings-r in
+    let r = c.settings-r in
     can_finish c.requires c.begun-t.ensures no_address 0 (put_settings r.result.settings) _ (r.ensures no_address 0) refl
 
 pub returns : goal.returns

@@ -17,13 +17,13 @@ request_ltk-r-requires c =
 
 pub tell-written-requires : goal.tell-written-requires
 tell-written-requires c =
-        let args = c.args in
+    let args = c.args in
     let yes = events_asked args.profile args.s args.out.now (rw c.holds-held.ensures at c.about_events-number.ensures) c.if-number-ne0.false in
     can_tell_alone c.request_ltk-r.ensures yes.held (request_ltk_alone args.handle args.random.now args.ediv) yes.room
 
 pub returns : goal.returns
 returns c =
-        let asked = rw c.holds-held.ensures at c.about_events-number.ensures in
+    let asked = rw c.holds-held.ensures at c.about_events-number.ensures in
     let zero = c.if-number-ne0.false in
     let args = c.args in
     let yes = events_asked args.profile args.s args.out.now asked zero in

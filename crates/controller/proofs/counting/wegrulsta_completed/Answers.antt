@@ -17,13 +17,13 @@ completed-r-requires c =
 
 pub tell-written-requires : goal.tell-written-requires
 tell-written-requires c =
-        let args = c.args in
+    let args = c.args in
     let yes = events_asked args.profile args.s args.out.now (rw c.holds-held.ensures at c.about_events-number.ensures) c.if-number-ne0.false in
     can_tell c.completed-r.ensures yes.held (completed_tells args.handle args.count) yes.room
 
 pub returns : goal.returns
 returns c =
-        let asked = rw c.holds-held.ensures at c.about_events-number.ensures in
+    let asked = rw c.holds-held.ensures at c.about_events-number.ensures in
     let zero = c.if-number-ne0.false in
     let args = c.args in
     let yes = events_asked args.profile args.s args.out.now asked zero in

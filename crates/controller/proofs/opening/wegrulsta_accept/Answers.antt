@@ -18,7 +18,7 @@ use Rattle.controller.proofs.opening.wegrulsta_accept.Goals as goal
 
 pub returns-then-number-ne0 : goal.returns-then-number-ne0
 returns-then-number-ne0 c =
-        let args = c.args in
+    let args = c.args in
     let no = c.if-number-ne0.true in
     gives_refused_as
     (λ pool opcodes answers bits.
@@ -35,7 +35,7 @@ can_open-requires c =
 pub returns-then-not-can_open : goal.returns-then-not-can_open
 unfolding first_no
 returns-then-not-can_open c =
-        let args = c.args in
+    let args = c.args in
     let yes = events_asked args.profile args.s args.out.now (rw c.holds-held.ensures at c.about_events-number.ensures) c.if-number-ne0.false in
     gives_refused_as
     (λ pool opcodes answers bits. rw (yes.limits, yes.together, yes.event_room, failed c.can_open.ensures (ap not c.if-not-can_open.true)))
@@ -44,13 +44,13 @@ returns-then-not-can_open c =
 
 pub accept_connection-r-requires : goal.accept_connection-r-requires
 accept_connection-r-requires c =
-        let args = c.args in
+    let args = c.args in
     let yes = events_asked args.profile args.s args.out.now (rw c.holds-held.ensures at c.about_events-number.ensures) c.if-number-ne0.false in
     (yes.held.links.few_links, yes.held.links.few_waiting, passed c.can_open.ensures (ap not c.if-not-can_open.false))
 
 pub tell-written-requires : goal.tell-written-requires
 tell-written-requires c =
-        let args = c.args in
+    let args = c.args in
     let yes = events_asked args.profile args.s args.out.now (rw c.holds-held.ensures at c.about_events-number.ensures) c.if-number-ne0.false in
     can_tell_alone c.accept_connection-r.ensures yes.held
     (λ m.
@@ -60,7 +60,7 @@ tell-written-requires c =
 pub returns : goal.returns
 unfolding first_no
 returns c =
-        let args = c.args in
+    let args = c.args in
     let yes = events_asked args.profile args.s args.out.now (rw c.holds-held.ensures at c.about_events-number.ensures) c.if-number-ne0.false in
     gives_told c.accept_connection-r.ensures yes.held (λ pool opcodes answers bits. (refl, refl, refl))
     (λ pool opcodes answers bits. rw (yes.limits, yes.together, yes.event_room, passed c.can_open.ensures (ap not c.if-not-can_open.false)))

@@ -11,13 +11,13 @@ returns-then-number-ne0 c = gives_refused (λ pool opcodes answers bits. rw c.ho
 
 pub tell-written-requires : goal.tell-written-requires
 tell-written-requires c =
-        let args = c.args in
+    let args = c.args in
     let yes = events_asked args.profile args.s args.out.now (rw c.holds-held.ensures at c.about_events-number.ensures) c.if-number-ne0.false in
     can_tell c.advertising_timeout-r.ensures yes.held advertising_timeout_tells yes.room
 
 pub returns : goal.returns
 returns c =
-        let asked = rw c.holds-held.ensures at c.about_events-number.ensures in
+    let asked = rw c.holds-held.ensures at c.about_events-number.ensures in
     let zero = c.if-number-ne0.false in
     let args = c.args in
     let yes = events_asked args.profile args.s args.out.now asked zero in

@@ -31,21 +31,21 @@ can_open-requires c =
 pub returns-then-not-can_open : goal.returns-then-not-can_open
 unfolding first_no
 returns-then-not-can_open c =
-        let args = c.args in
+    let args = c.args in
     let yes = state_asked args.profile args.s (rw c.holds-held.ensures at c.about_state-number.ensures) c.if-number-ne0.false in
     gives_refused (λ pool opcodes answers bits. rw (yes.limits, yes.together, failed c.can_open.ensures (ap not c.if-not-can_open.true)))
     (λ e. omega (arith, e))
 
 pub open_connection-r-requires : goal.open_connection-r-requires
 open_connection-r-requires c =
-        let args = c.args in
+    let args = c.args in
     let yes = state_asked args.profile args.s (rw c.holds-held.ensures at c.about_state-number.ensures) c.if-number-ne0.false in
     (yes.held.links.few_links, yes.held.links.few_waiting, passed c.can_open.ensures (ap not c.if-not-can_open.false))
 
 pub returns : goal.returns
 unfolding first_no
 returns c =
-        let args = c.args in
+    let args = c.args in
     let yes = state_asked args.profile args.s (rw c.holds-held.ensures at c.about_state-number.ensures) c.if-number-ne0.false in
     gives_silent c.open_connection-r.ensures yes.held (λ pool opcodes answers bits. (refl, refl, refl))
     (λ pool opcodes answers bits. rw (yes.limits, yes.together, passed c.can_open.ensures (ap not c.if-not-can_open.false)))

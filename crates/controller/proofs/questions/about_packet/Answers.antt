@@ -14,12 +14,12 @@ returns-then-not-within_limits c = rw (failed c.within_limits.ensures (ap not c.
 pub returns-then-not-rows_fit : goal.returns-then-not-rows_fit
 unfolding first_no
 returns-then-not-rows_fit c =
-        rw (passed c.within_limits.ensures (ap not c.if-not-within_limits.false), failed c.rows_fit.ensures (ap not c.if-not-rows_fit.true))
+    rw (passed c.within_limits.ensures (ap not c.if-not-within_limits.false), failed c.rows_fit.ensures (ap not c.if-not-rows_fit.true))
 
 pub returns-then-not-held : goal.returns-then-not-held
 unfolding first_no
 returns-then-not-held c =
-        rw (
+    rw (
       passed c.within_limits.ensures (ap not c.if-not-within_limits.false),
       passed c.rows_fit.ensures (ap not c.if-not-rows_fit.false),
       not-true c.args.held (ap not c.if-not-held.true),
@@ -28,7 +28,7 @@ returns-then-not-held c =
 pub returns-then-not-pool_fits : goal.returns-then-not-pool_fits
 unfolding first_no
 returns-then-not-pool_fits c =
-        rw (
+    rw (
       passed c.within_limits.ensures (ap not c.if-not-within_limits.false),
       passed c.rows_fit.ensures (ap not c.if-not-rows_fit.false),
       not-false c.args.held (ap not c.if-not-held.false),
@@ -38,7 +38,7 @@ returns-then-not-pool_fits c =
 pub returns-then-room-lt71 : goal.returns-then-room-lt71
 unfolding first_no
 returns-then-room-lt71 c =
-        rw (
+    rw (
       passed c.within_limits.ensures (ap not c.if-not-within_limits.false),
       passed c.rows_fit.ensures (ap not c.if-not-rows_fit.false),
       not-false c.args.held (ap not c.if-not-held.false),
@@ -49,7 +49,7 @@ returns-then-room-lt71 c =
 pub returns : goal.returns
 unfolding first_no
 returns c =
-        rw (
+    rw (
       passed c.within_limits.ensures (ap not c.if-not-within_limits.false),
       passed c.rows_fit.ensures (ap not c.if-not-rows_fit.false),
       not-false c.args.held (ap not c.if-not-held.false),

@@ -10,7 +10,7 @@ use Rattle.controller.proofs.telling.tell.Goals as goal
 
 pub write_answer-requires : goal.write_answer-requires
 write_answer-requires c =
-        let a = c.args.answer in
+    let a = c.args.answer in
     let holds = c.requires.holds in
     let long : length a.octets ≡ 65 = search rules in
     let taken = length-take-le a.len a.octets (omega (arith, long, holds.short)) in

@@ -14,4 +14,4 @@ returns-then-p c = rw (eq-eqb _ _ c.if-p.true)
 pub returns : goal.returns
 unfolding accept_entry
 returns c =
-        rw (ne_eqb _ _ c.if-p.false) (c.identity.ensures ∙ take_all 7 c.args.p.now (omega arith))
+    rw (ne_eqb _ _ c.if-p.false) (c.identity.ensures ∙ take_all 7 c.args.p.now (omega arith))

@@ -46,9 +46,9 @@ loop-i-preserved c =
     let more = c.loop-i-test.true in
     differ_turn w n octets c.requires.0 c.requires.1 c.type_inv.octets g read more
     (elim c.else-met-mark.branch [
-      else-met-mark-via-then-met-mark+else-stands_before m ↦ sym m.stands_before.ensures ∙ m.if-stands_before.false
+      | else-met-mark-via-then-met-mark+else-stands_before m ↦ sym m.stands_before.ensures ∙ m.if-stands_before.false
       | else-met-mark-via-else-met-mark m ↦
-        unmet_none w n octets c.requires.0 c.requires.1 c.type_inv.octets g read more m.if-met-mark.false
+          unmet_none w n octets c.requires.0 c.requires.1 c.type_inv.octets g read more m.if-met-mark.false
     ])
 
 pub returns : goal.returns

@@ -53,12 +53,12 @@ loop-i-preserved c =
     let there = drop c.args.at octets in
     let other : key_of here ≡ key.result → ⊥ =
     elim c.else-low_at-low.branch [
-      else-low_at-low-via-then-low_at-low+else-key_at-key w ↦ λ e. w.if-key_at-key.false (w.key_at.ensures ∙ e)
+      | else-low_at-low-via-then-low_at-low+else-key_at-key w ↦ λ e. w.if-key_at-key.false (w.key_at.ensures ∙ e)
       | else-low_at-low-via-else-low_at-low w ↦
-        λ e.
-        let same = same_low here there (octets_drop l.place octets c.type_inv.octets)
-        (octets_drop c.args.at octets c.type_inv.octets) (e ∙ key.ensures) in
-        w.if-low_at-low.false (c.low_at.ensures ∙ same ∙ sym low.ensures)
+          λ e.
+          let same = same_low here there (octets_drop l.place octets c.type_inv.octets)
+          (octets_drop c.args.at octets c.type_inv.octets) (e ∙ key.ensures) in
+          w.if-low_at-low.false (c.low_at.ensures ∙ same ∙ sym low.ensures)
     ] in
     seek_on c.args.width c.args.n octets c.requires.0 c.requires.1 _ l.invariant refl other (omega arith)
 

@@ -9,15 +9,15 @@ use Rattle.filters.proofs.keys.cut.Goals as goal
 
 pub overflow_mul-at : goal.overflow_mul-at
 overflow_mul-at c =
-        omega (arith, parts c.args.width c.args.n c.args.place c.requires.1)
+    omega (arith, parts c.args.width c.args.n c.args.place c.requires.1)
 
 pub overflow_mul-rest : goal.overflow_mul-rest
 overflow_mul-rest c =
-        omega (arith, parts c.args.width c.args.n c.args.place c.requires.1)
+    omega (arith, parts c.args.width c.args.n c.args.place c.requires.1)
 
 pub slice_bounds-move_to_front-count : goal.slice_bounds-move_to_front-count
 slice_bounds-move_to_front-count c =
-        omega (arith, parts c.args.width c.args.n c.args.place c.requires.1)
+    omega (arith, parts c.args.width c.args.n c.args.place c.requires.1)
 
 pub slice_bounds-move_to_front-start : goal.slice_bounds-move_to_front-start
 slice_bounds-move_to_front-start c =
@@ -26,7 +26,7 @@ slice_bounds-move_to_front-start c =
 
 pub move_to_front-requires : goal.move_to_front-requires
 move_to_front-requires c =
-        let at = c.args.place * c.args.width in
+    let at = c.args.place * c.args.width in
     let l = c.args.octets.now in
     let rest : length l - at ≤ length (drop at l) = simp length-drop (omega arith) in
     let room = parts c.args.width c.args.n c.args.place c.requires.1 in
@@ -34,5 +34,5 @@ move_to_front-requires c =
 
 pub returns : goal.returns
 returns c =
-        part_cut c.args.width c.args.n c.args.place c.args.octets.now _ _ c.requires.1 c.requires.0
+    part_cut c.args.width c.args.n c.args.place c.args.octets.now _ _ c.requires.1 c.requires.0
     c.move_to_front.ensures

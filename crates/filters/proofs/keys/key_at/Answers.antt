@@ -13,7 +13,7 @@ use Rattle.filters.proofs.keys.key_at.Goals as goal
 
 pub returns : goal.returns
 returns c =
-        let l = c.args.octets.now in
+    let l = c.args.octets.now in
     let at = c.args.at in
     let long : 7 ≤ length (drop at l) = simp length-drop (omega arith) in
     c.key_of.ensures

@@ -10,7 +10,7 @@ use Rattle.filters.proofs.keys.place_of.Goals as goal
 
 pub loop-i-init : goal.loop-i-init
 loop-i-init c =
-        seek_begin c.args.width c.args.n c.args.octets.now c.requires.0 c.requires.1 _
+    seek_begin c.args.width c.args.n c.args.octets.now c.requires.0 c.requires.1 _
 
 pub key_at-requires : goal.key_at-requires
 key_at-requires c =
@@ -20,7 +20,7 @@ key_at-requires c =
 
 pub returns-then-key_at-key : goal.returns-then-key_at-key
 returns-then-key_at-key c =
-        let w = c.args.width in
+    let w = c.args.width in
     let n = c.args.n in
     let octets = c.args.octets.now in
     let key = c.key_of-key in
@@ -39,12 +39,12 @@ overflow_add-at c =
 
 pub loop-i-preserved : goal.loop-i-preserved
 loop-i-preserved c =
-        seek_on c.args.width c.args.n c.args.octets.now c.requires.0 c.requires.1 _
+    seek_on c.args.width c.args.n c.args.octets.now c.requires.0 c.requires.1 _
     c.loop-i.invariant c.key_at.ensures c.if-key_at-key.false (omega arith)
 
 pub returns : goal.returns
 returns c =
-        let w = c.args.width in
+    let w = c.args.width in
     let n = c.args.n in
     let octets = c.args.octets.now in
     let key = c.key_of-key in

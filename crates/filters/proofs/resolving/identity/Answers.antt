@@ -5,4 +5,4 @@ use Rattle.filters.proofs.resolving.identity.Goals as goal
 
 pub returns : goal.returns
 returns c =
-        listed_take 7 0 c.args.p.now c.requires
+    listed_take 7 0 c.args.p.now c.requires

@@ -13,7 +13,7 @@ returns-then-timeout-eq0 c = rw (eq-eqb _ 0 c.if-timeout-eq0.true)
 
 pub overflow_mul-result-2 : goal.overflow_mul-result-2
 overflow_mul-result-2 c =
-        let small : c.args.c.interval * (1 + c.args.c.latency) ≤ 65535 * 65536 = mul-le-mul {n₂ = 65535} {m₂ = 65536} (omega arith) (omega arith) in
+    let small : c.args.c.interval * (1 + c.args.c.latency) ≤ 65535 * 65536 = mul-le-mul {n₂ = 65535} {m₂ = 65536} (omega arith) (omega arith) in
     record { fits = omega arith }
 
 pub returns : goal.returns

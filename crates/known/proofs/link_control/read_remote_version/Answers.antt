@@ -16,5 +16,5 @@ returns-then-not-has c =
 pub returns : goal.returns
 unfolding read_remote_version remote_version_complete
 returns c =
-        let some = sym c.has.ensures ∙ c.if-not-has.false in
+    let some = sym c.has.ensures ∙ c.if-not-has.false in
     answered_then c.followed_by_event.ensures c.status-answer.ensures (rw (← c.word_at-handle.ensures, some))

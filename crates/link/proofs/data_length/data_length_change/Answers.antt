@@ -5,7 +5,7 @@ use Rattle.link.proofs.data_length.data_length_change.Goals as goal
 
 pub returns-then-same_data_length : goal.returns-then-same_data_length
 returns-then-same_data_length c =
-        answered c.done_handle-answer.ensures
+    answered c.done_handle-answer.ensures
     (rw (
       ← c.word_at-handle.ensures,
       ← c.new_octets-octets.ensures,
@@ -16,7 +16,7 @@ returns-then-same_data_length c =
 
 pub returns : goal.returns
 returns c =
-        answered_then c.followed_by_le.ensures c.done_handle-answer.ensures
+    answered_then c.followed_by_le.ensures c.done_handle-answer.ensures
     (rw (
       ← c.word_at-handle.ensures,
       ← c.new_octets-octets.ensures,

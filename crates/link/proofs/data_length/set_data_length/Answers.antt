@@ -11,14 +11,14 @@ use Rattle.link.proofs.data_length.set_data_length.Goals as goal
 pub returns-then-not-data_length_valid : goal.returns-then-not-data_length_valid
 unfolding set_data_length
 returns-then-not-data_length_valid c k held =
-        let valid = rw (c.word_at.ensures, c.word_at-2.ensures) at c.data_length_valid.ensures in
+    let valid = rw (c.word_at.ensures, c.word_at-2.ensures) at c.data_length_valid.ensures in
     gives_answer c.done_handle-answer.ensures
     (λ size pool. rw (← valid, (ap not c.if-not-data_length_valid.true), c.word_at-handle.ensures)) held
 
 pub returns-in-Found : goal.returns-in-Found
 unfolding set_data_length
 returns-in-Found c k held =
-        let handle = c.word_at-handle.ensures in
+    let handle = c.word_at-handle.ensures in
     let valid = rw (c.word_at.ensures, c.word_at-2.ensures) at c.data_length_valid.ensures in
     let found = rw handle at (sym c.in-Found.is ∙ c.connection_of-found.ensures) in
     gives_changed c.word_at-handle.result
@@ -36,7 +36,7 @@ returns-in-Found c k held =
 pub returns-in-Nothing : goal.returns-in-Nothing
 unfolding set_data_length
 returns-in-Nothing c k held =
-        let handle = c.word_at-handle.ensures in
+    let handle = c.word_at-handle.ensures in
     let valid = rw (c.word_at.ensures, c.word_at-2.ensures) at c.data_length_valid.ensures in
     let found = rw handle at (sym c.in-Nothing.is ∙ c.connection_of-found.ensures) in
     gives_answer c.done_handle-answer-in-Nothing.ensures

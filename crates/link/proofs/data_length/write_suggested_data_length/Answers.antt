@@ -9,7 +9,7 @@ use Rattle.link.proofs.data_length.write_suggested_data_length.Goals as goal
 pub returns-then-not-data_length_valid : goal.returns-then-not-data_length_valid
 unfolding write_suggested_data_length
 returns-then-not-data_length_valid c k held =
-        gives_answer c.done-answer.ensures
+    gives_answer c.done-answer.ensures
     (λ size pool. rw (
       ← c.word_at-octets.ensures,
       ← c.word_at-time.ensures,
@@ -20,7 +20,7 @@ returns-then-not-data_length_valid c k held =
 pub returns : goal.returns
 unfolding write_suggested_data_length
 returns c k held =
-        gives_answer c.done-answer-2.ensures
+    gives_answer c.done-answer-2.ensures
     (λ size pool. rw (
       ← c.word_at-octets.ensures,
       ← c.word_at-time.ensures,

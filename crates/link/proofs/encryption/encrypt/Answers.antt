@@ -8,7 +8,7 @@ use Rattle.link.proofs.encryption.encrypt.Goals as goal
 
 pub returns : goal.returns
 returns c =
-        let out : length c.encrypt_128-out.result ≡ 16 = search rules in
+    let out : length c.encrypt_128-out.result ≡ 16 = search rules in
     let back : length c.reversed-back.result ≡ 16 = search rules in
     answered c.complete.ensures
     (rw (behind_zero back c.put.ensures)

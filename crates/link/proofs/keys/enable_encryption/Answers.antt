@@ -10,11 +10,11 @@ use Rattle.link.proofs.keys.enable_encryption.Goals as goal
 pub returns-then-not-has : goal.returns-then-not-has
 unfolding enable_encryption
 returns-then-not-has c =
-        answered c.status.ensures
+    answered c.status.ensures
     (rw (← c.word_at-handle.ensures, ← c.has.ensures, not-true c.has.result (ap not c.if-not-has.true)))
 
 pub returns : goal.returns
 unfolding enable_encryption
 returns c =
-        answered_then c.followed_by_encryption_change.ensures c.status-answer.ensures
+    answered_then c.followed_by_encryption_change.ensures c.status-answer.ensures
     (rw (← c.word_at-handle.ensures, ← c.has.ensures, not-false c.has.result (ap not c.if-not-has.false)))

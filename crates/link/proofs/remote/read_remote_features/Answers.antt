@@ -10,13 +10,13 @@ use Rattle.link.proofs.remote.read_remote_features.Goals as goal
 pub returns-then-not-has : goal.returns-then-not-has
 unfolding read_remote_features
 returns-then-not-has c =
-        answered c.status.ensures
+    answered c.status.ensures
     (rw (← c.word_at-handle.ensures, ← c.has.ensures, not-true c.has.result (ap not c.if-not-has.true)))
 
 pub returns : goal.returns
 unfolding read_remote_features
 returns c =
-        answered_then c.followed_by_le.ensures c.status-answer.ensures
+    answered_then c.followed_by_le.ensures c.status-answer.ensures
     (rw (
       ← c.word_at-handle.ensures,
       ← c.has.ensures,

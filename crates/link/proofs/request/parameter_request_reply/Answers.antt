@@ -12,7 +12,7 @@ use Rattle.link.proofs.request.parameter_request_reply.Goals as goal
 pub returns-then-not-valid : goal.returns-then-not-valid
 unfolding parameter_request_reply
 returns-then-not-valid c k held =
-        let p = c.args.p.now in
+    let p = c.args.p.now in
     update_invalid (done_handle 0x12 (word p 0)) (done_handle 0x02 (word p 0)) (done_handle 0 (word p 0)) p
     c.word_at-handle.ensures c.update_valid-valid.ensures c.has-known.ensures held
     (ap not c.if-not-valid.true)
@@ -21,7 +21,7 @@ returns-then-not-valid c k held =
 pub returns-then-not-known : goal.returns-then-not-known
 unfolding parameter_request_reply
 returns-then-not-known c k held =
-        let p = c.args.p.now in
+    let p = c.args.p.now in
     update_unknown (done_handle 0x12 (word p 0)) (done_handle 0x02 (word p 0)) (done_handle 0 (word p 0)) p
     c.word_at-handle.ensures c.update_valid-valid.ensures c.has-known.ensures held
     (ap not c.if-not-valid.false) (ap not c.if-not-known.true)
@@ -30,7 +30,7 @@ returns-then-not-known c k held =
 pub returns : goal.returns
 unfolding parameter_request_reply
 returns c k held =
-        let p = c.args.p.now in
+    let p = c.args.p.now in
     update_applied (done_handle 0x12 (word p 0)) (done_handle 0x02 (word p 0)) (done_handle 0 (word p 0)) p
     c.word_at-handle.ensures c.update_valid-valid.ensures c.has-known.ensures held
     (ap not c.if-not-valid.false) (ap not c.if-not-known.false)

@@ -4,7 +4,7 @@ use Rattle.link.proofs.update.apply_params.Goals as goal
 
 pub returns : goal.returns
 returns c =
-        let timeout = c.word_at-timeout.ensures in
+    let timeout = c.word_at-timeout.ensures in
     let latency = c.word_at-latency.ensures in
     let interval = c.word_at-interval.ensures in
     let handle = c.word_at-handle.ensures in

@@ -12,7 +12,7 @@ use Rattle.link.proofs.update.connection_update.Goals as goal
 pub returns-then-not-valid : goal.returns-then-not-valid
 unfolding connection_update
 returns-then-not-valid c k held =
-        let p = c.args.p.now in
+    let p = c.args.p.now in
     update_invalid (status 0x12) (status 0x02) (status 0) p
     c.word_at-handle.ensures c.update_valid-valid.ensures c.has-known.ensures held
     (ap not c.if-not-valid.true)
@@ -21,7 +21,7 @@ returns-then-not-valid c k held =
 pub returns-then-not-known : goal.returns-then-not-known
 unfolding connection_update
 returns-then-not-known c k held =
-        let p = c.args.p.now in
+    let p = c.args.p.now in
     update_unknown (status 0x12) (status 0x02) (status 0) p
     c.word_at-handle.ensures c.update_valid-valid.ensures c.has-known.ensures held
     (ap not c.if-not-valid.false) (ap not c.if-not-known.true)
@@ -30,7 +30,7 @@ returns-then-not-known c k held =
 pub returns : goal.returns
 unfolding connection_update
 returns c k held =
-        let p = c.args.p.now in
+    let p = c.args.p.now in
     update_applied (status 0x12) (status 0x02) (status 0) p
     c.word_at-handle.ensures c.update_valid-valid.ensures c.has-known.ensures held
     (ap not c.if-not-valid.false) (ap not c.if-not-known.false) c.status.ensures c.apply_params.ensures

@@ -21,11 +21,14 @@ loop-i-preserved c =
     let s = c.args in
     let l = c.loop-i in
     let all : length s.links.connections ≡ 16 = search (rules, length_of_map) in
-    elim c.if-c-handle.branch [ then-c-handle w ↦ rw (w.kept-is, w.k-is)
-    (filter_keep (other_than s.handle) s.links.connections s.links.count l.kept l.k l.i _ l.invariant
-    (ap not (ne_eqb _ _ w.if-c-handle.true)) (omega arith) (omega arith)) | else-c-handle w ↦ rw (w.kept-is, w.k-is)
-    (filter_pass (other_than s.handle) s.links.connections s.links.count l.kept l.k l.i _ l.invariant
-    (ap not (eq-eqb _ _ w.if-c-handle.false)) (omega arith) (omega arith)) ]
+    elim c.if-c-handle.branch [
+      | then-c-handle w ↦ rw (w.kept-is, w.k-is)
+          (filter_keep (other_than s.handle) s.links.connections s.links.count l.kept l.k l.i _ l.invariant
+          (ap not (ne_eqb _ _ w.if-c-handle.true)) (omega arith) (omega arith))
+      | else-c-handle w ↦ rw (w.kept-is, w.k-is)
+          (filter_pass (other_than s.handle) s.links.connections s.links.count l.kept l.k l.i _ l.invariant
+          (ap not (eq-eqb _ _ w.if-c-handle.false)) (omega arith) (omega arith))
+    ]
 
 pub returns : goal.returns
 returns c =

@@ -21,11 +21,14 @@ loop-i-preserved c =
     let s = c.args in
     let l = c.loop-i in
     let all : length s.links.waiting ≡ 32 = search (rules, length_of_map) in
-    elim c.if-w-handle.branch [ then-w-handle w ↦ rw (w.kept-is, w.k-is)
-    (filter_keep (away_from s.handle) s.links.waiting s.links.waiting_count l.kept l.k l.i _
-    l.invariant (ap not (ne_eqb _ _ w.if-w-handle.true)) (omega arith) (omega arith)) | else-w-handle w ↦ rw (w.kept-is, w.k-is)
-    (filter_pass (away_from s.handle) s.links.waiting s.links.waiting_count l.kept l.k l.i _
-    l.invariant (ap not (eq-eqb _ _ w.if-w-handle.false)) (omega arith) (omega arith)) ]
+    elim c.if-w-handle.branch [
+      | then-w-handle w ↦ rw (w.kept-is, w.k-is)
+          (filter_keep (away_from s.handle) s.links.waiting s.links.waiting_count l.kept l.k l.i _
+          l.invariant (ap not (ne_eqb _ _ w.if-w-handle.true)) (omega arith) (omega arith))
+      | else-w-handle w ↦ rw (w.kept-is, w.k-is)
+          (filter_pass (away_from s.handle) s.links.waiting s.links.waiting_count l.kept l.k l.i _
+          l.invariant (ap not (eq-eqb _ _ w.if-w-handle.false)) (omega arith) (omega arith))
+    ]
 
 pub returns : goal.returns
 returns c =

@@ -25,8 +25,9 @@ loop-i-preserved c =
     let more = any_more (keyed itself s.x) s.numbers.now l.i 0 (omega arith) in (
       search rules,
       elim c.if-y-x.branch [
-        then-y-x w ↦ w.t-is ∙ sym (more ∙ rw (eq-eqb _ _ w.if-y-x.true, or-true))
-        | else-y-x w ↦ w.t-is ∙ l.invariant.1 ∙ sym (more ∙ rw (ne_eqb _ _ w.if-y-x.false, or-false)) ],
+        | then-y-x w ↦ w.t-is ∙ sym (more ∙ rw (eq-eqb _ _ w.if-y-x.true, or-true))
+        | else-y-x w ↦ w.t-is ∙ l.invariant.1 ∙ sym (more ∙ rw (ne_eqb _ _ w.if-y-x.false, or-false))
+      ],
     )
 
 pub returns : goal.returns

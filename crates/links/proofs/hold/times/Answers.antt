@@ -26,6 +26,6 @@ loop-i-preserved c =
 
 pub returns : goal.returns
 returns c =
-        let l = c.loop-i in
+    let l = c.loop-i in
     let e : l.i ≡ 16 = omega arith in
     l.invariant.2 ∙ rw (e, take_all 16 c.args.numbers.now (omega arith))

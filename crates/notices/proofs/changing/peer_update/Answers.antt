@@ -12,13 +12,13 @@ use Rattle.notices.proofs.changing.peer_update.Goals as goal
 pub returns-then-not-has : goal.returns-then-not-has
 unfolding peer_update
 returns-then-not-has c k held =
-        gives_answer c.silent-answer.ensures
+    gives_answer c.silent-answer.ensures
     (λ size pool. rw (← c.has.ensures, not-true c.has.result (ap not c.if-not-has.true))) held
 
 pub returns : goal.returns
 unfolding peer_update
 returns c k held =
-        let args = c.args in
+    let args = c.args in
     gives_changed args.handle (with_parameters args.interval args.latency args.timeout) (λ x. refl)
     c.set_parameters-links.ensures
     (answered_then c.followed_by_le-answer.ensures c.silent-answer.ensures refl)

@@ -17,13 +17,13 @@ use Rattle.notices.proofs.changing.request_ltk.Goals as goal
 pub returns-then-not-has : goal.returns-then-not-has
 unfolding request_ltk
 returns-then-not-has c k held =
-        gives_answer c.silent-answer.ensures
+    gives_answer c.silent-answer.ensures
     (λ size pool. rw (← c.has.ensures, not-true c.has.result (ap not c.if-not-has.true))) held
 
 pub returns : goal.returns
 unfolding request_ltk
 returns c k held =
-        let args = c.args in
+    let args = c.args in
     let eight : length args.random ≡ 8 = search (rules, c.well_formed) in
     let event = le_meta_event args.s.masks 0x05 (le 2 args.handle ++ args.random ++ le 2 args.ediv) in
     gives_changed {expected = tells event} args.handle (with_ltk_requested 1) (λ x. refl)

@@ -12,7 +12,7 @@ connection_complete-answer-requires c = record { five = search rules; six = sear
 pub returns : goal.returns
 unfolding accept_connection
 returns c k held =
-        let args = c.args in
+    let args = c.args in
     let new = new_connection args.handle args.interval args.latency args.timeout in
     gives_links (opened_last new) c.open_connection-links.ensures.viewed
     (opened_holds args.s.links held.links new c.requires.2 c.open_connection-links.ensures.lists)

@@ -17,7 +17,7 @@ returns-then-count-eq0 c k held = gives_answer c.silent-answer.ensures (λ size 
 pub returns : goal.returns
 unfolding completed pairs
 returns c k held =
-        let args = c.args in
+    let args = c.args in
     gives_links (settled args.count) c.settle-links.ensures.viewed
     (settled_holds args.s.links held.links args.count c.settle-links.ensures.lists)
     (answered_then c.followed_by_event-answer.ensures c.silent-answer.ensures refl)

@@ -11,7 +11,7 @@ use Rattle.notices.proofs.packets.drop_in_flight.Goals as goal
 pub returns : goal.returns
 unfolding drop_in_flight
 returns c k held =
-        let args = c.args in
+    let args = c.args in
     gives_links (settled args.count) c.settle-links.ensures.viewed
     (settled_holds args.s.links held.links args.count c.settle-links.ensures.lists)
     (answered c.silent-answer.ensures refl) (λ size pool. refl) held

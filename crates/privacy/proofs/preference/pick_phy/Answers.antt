@@ -16,17 +16,17 @@ returns-then-both-eq1 c =
 
 pub returns-then-both-eq1-2 : goal.returns-then-both-eq1-2
 returns-then-both-eq1-2 c =
-        let s = c.args in
+    let s = c.args in
     sym (picks_1m s.profile s.allowed s.current c.if-any.false c.phys-supported.ensures c.if-both-eq1.false c.if-both-eq1-2.true)
 
 pub returns-then-both-eq0 : goal.returns-then-both-eq0
 returns-then-both-eq0 c =
-        let s = c.args in
+    let s = c.args in
     sym (picks_1m_by_default s.profile s.allowed s.current c.if-any.false c.phys-supported.ensures
     c.if-both-eq1.false c.if-both-eq1-2.false c.if-both-eq0.true)
 
 pub returns : goal.returns
 returns c =
-        let s = c.args in
+    let s = c.args in
     sym (picks_coded s.profile s.allowed s.current c.if-any.false c.phys-supported.ensures
     c.if-both-eq1.false c.if-both-eq1-2.false c.if-both-eq0.false)

@@ -30,7 +30,7 @@ returns-then-p-gt1 c =
 pub returns-then-listed : goal.returns-then-listed
 unfolding add_to_resolving_list
 returns-then-listed c =
-        let present = identity_told c.args.s.resolving_list c.args.p.now c.identity-identity.ensures
+    let present = identity_told c.args.s.resolving_list c.args.p.now c.identity-identity.ensures
     c.listed.ensures c.if-listed.true in
     gives_part put_resolving_list c.list_answered-then-listed.ensures
     (λ size pool.
@@ -43,7 +43,7 @@ returns-then-listed c =
 pub returns-then-list-profile : goal.returns-then-list-profile
 unfolding add_to_resolving_list
 returns-then-list-profile c =
-        let list = c.args.s.resolving_list in
+    let list = c.args.s.resolving_list in
     let absent = identity_told list c.args.p.now c.identity-identity.ensures c.listed.ensures c.if-listed.false in
     gives_part put_resolving_list c.list_answered-then-list-profile.ensures
     (λ size pool.
@@ -58,7 +58,7 @@ returns-then-list-profile c =
 pub returns : goal.returns
 unfolding add_to_resolving_list
 returns c =
-        let list = c.args.s.resolving_list in
+    let list = c.args.s.resolving_list in
     let p = c.args.p.now in
     let identity = c.identity-identity.result in
     let same = c.identity-identity.ensures in

@@ -4,6 +4,6 @@ use Rattle.state.proofs.start.default_state.Goals as goal
 
 pub returns : goal.returns
 returns c = record {
-      viewed = λ size pool. c.fresh_state.ensures.viewed size pool ∙ rw c.new.ensures.0;
-      held = λ k. c.fresh_state.ensures.held (omega (arith, c.new.ensures.1)) k;
-    }
+  viewed = λ size pool. c.fresh_state.ensures.viewed size pool ∙ rw c.new.ensures.0;
+  held = λ k. c.fresh_state.ensures.held (omega (arith, c.new.ensures.1)) k;
+}

@@ -7,7 +7,7 @@ use Rattle.state.proofs.start.fresh_state.Goals as goal
 
 pub returns : goal.returns
 returns c = record {
-      viewed = λ size pool.
+  viewed = λ size pool.
       rw (
         c.default_settings.ensures,
         c.default_advertising.ensures.0,
@@ -15,7 +15,7 @@ returns c = record {
         c.new-2.ensures,
         links_fresh size pool c.new-3.ensures,
       );
-      held = λ h k. record {
+  held = λ h k. record {
     settings = settings_fresh c.default_settings.ensures;
     advertising = c.default_advertising.ensures.1;
     recent = h;
@@ -23,4 +23,4 @@ returns c = record {
     accept = accept_empty _ c.new.ensures;
     resolving = resolving_empty _ c.new-2.ensures;
   };
-    }
+}

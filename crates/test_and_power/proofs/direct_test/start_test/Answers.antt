@@ -30,7 +30,7 @@ returns-then-not-idle c =
 pub returns-then-channel-gt39 : goal.returns-then-channel-gt39
 unfolding start_test
 returns-then-channel-gt39 c =
-        let idles = is_idle c.args.s c.idle.ensures (ap not c.if-not-idle.false) in
+    let idles = is_idle c.args.s c.idle.ensures (ap not c.if-not-idle.false) in
     let above : 0x27 < c.args.channel = omega (arith, c.if-channel-gt39.true) in
     gives_part put_settings c.settings_answered-then-channel-gt39.ensures (λ size pool. rw (idles size pool, lt-ltb _ _ above))
     c.requires.holds
@@ -38,7 +38,7 @@ returns-then-channel-gt39 c =
 pub returns-then-not-test_phy : goal.returns-then-not-test_phy
 unfolding start_test
 returns-then-not-test_phy c =
-        let idles = is_idle c.args.s c.idle.ensures (ap not c.if-not-idle.false) in
+    let idles = is_idle c.args.s c.idle.ensures (ap not c.if-not-idle.false) in
     let within : c.args.channel ≤ 0x27 = omega (arith, c.if-channel-gt39.false) in
     let without = sym c.test_phy.ensures ∙ c.if-not-test_phy.true in
     gives_part put_settings c.settings_answered-then-not-test_phy.ensures (λ size pool. rw (idles size pool, le-ltb _ _ within, without))
@@ -47,7 +47,7 @@ returns-then-not-test_phy c =
 pub returns-then-not-allowed : goal.returns-then-not-allowed
 unfolding start_test
 returns-then-not-allowed c =
-        let idles = is_idle c.args.s c.idle.ensures (ap not c.if-not-idle.false) in
+    let idles = is_idle c.args.s c.idle.ensures (ap not c.if-not-idle.false) in
     let within : c.args.channel ≤ 0x27 = omega (arith, c.if-channel-gt39.false) in
     let has = sym c.test_phy.ensures ∙ c.if-not-test_phy.false in
     let refused = not-true c.args.allowed (ap not c.if-not-allowed.true) in
@@ -57,7 +57,7 @@ returns-then-not-allowed c =
 pub returns : goal.returns
 unfolding start_test
 returns c =
-        let test = c.if-transmit.settings in
+    let test = c.if-transmit.settings in
     let idles = is_idle c.args.s c.idle.ensures (ap not c.if-not-idle.false) in
     let within : c.args.channel ≤ 0x27 = omega (arith, c.if-channel-gt39.false) in
     let has = sym c.test_phy.ensures ∙ c.if-not-test_phy.false in

@@ -16,14 +16,14 @@ use Rattle.filters.proofs.accept.AcceptList.add.Goals as goal
 pub returns-then-contains : goal.returns-then-contains
 unfolding added is_full
 returns-then-contains c =
-        let present : contains_entry c.args.entry (accept_entries c.args.self) ≡ true =
+    let present : contains_entry c.args.entry (accept_entries c.args.self) ≡ true =
     sym c.contains.ensures ∙ c.if-contains.true in
     (rw present, rw present)
 
 pub returns-then-size-n : goal.returns-then-size-n
 unfolding added is_full
 returns-then-size-n c =
-        let l = accept_entries c.args.self in
+    let l = accept_entries c.args.self in
     let absent : contains_entry c.args.entry l ≡ false =
     sym c.contains.ensures ∙ c.if-contains.false in
     let full : leb c.args.size (length l) ≡ true =
@@ -40,7 +40,7 @@ put-requires c =
 pub returns : goal.returns
 unfolding added is_full
 returns c =
-        let n = c.args.self.count in
+    let n = c.args.self.count in
     let l = accept_entries c.args.self in
     let absent : contains_entry c.args.entry l ≡ false =
     sym c.contains.ensures
