@@ -7,8 +7,7 @@ use profile::ControllerRow;
 use state::Controller;
 
 // The central applied a connection update.
-#[unsafe(no_mangle)]
-pub extern "C" fn wegrulsta_update(
+pub fn wegrulsta_update(
     profile: ControllerRow,
     s: Controller,
     handle: u16,
@@ -42,8 +41,7 @@ pub extern "C" fn wegrulsta_update(
 }
 
 // A central starts encryption.
-#[unsafe(no_mangle)]
-pub extern "C" fn wegrulsta_request_key(
+pub fn wegrulsta_request_key(
     profile: ControllerRow,
     s: Controller,
     handle: u16,

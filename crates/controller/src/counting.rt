@@ -7,8 +7,7 @@ use profile::ControllerRow;
 use state::Controller;
 
 // So many packets of a link were completed.
-#[unsafe(no_mangle)]
-pub extern "C" fn wegrulsta_completed(
+pub fn wegrulsta_completed(
     profile: ControllerRow,
     s: Controller,
     handle: u16,
@@ -40,8 +39,7 @@ pub extern "C" fn wegrulsta_completed(
 }
 
 // So many packets in flight are gone with their link; the host is told nothing.
-#[unsafe(no_mangle)]
-pub extern "C" fn wegrulsta_drop(profile: ControllerRow, s: Controller, count: u16) -> Changed
+pub fn wegrulsta_drop(profile: ControllerRow, s: Controller, count: u16) -> Changed
     ensures { Changes profile (call.drop_in_flight count) s result }
 {
     let held = state::holds(s, profile);

@@ -7,8 +7,7 @@ use profile::ControllerRow;
 use state::Controller;
 
 // The peer ended the link, for this reason.
-#[unsafe(no_mangle)]
-pub extern "C" fn wegrulsta_remote_disconnect(
+pub fn wegrulsta_remote_disconnect(
     profile: ControllerRow,
     s: Controller,
     handle: u16,
@@ -40,8 +39,7 @@ pub extern "C" fn wegrulsta_remote_disconnect(
 }
 
 // The peer acknowledged the host's Disconnect.
-#[unsafe(no_mangle)]
-pub extern "C" fn wegrulsta_complete_disconnect(
+pub fn wegrulsta_complete_disconnect(
     profile: ControllerRow,
     s: Controller,
     handle: u16,

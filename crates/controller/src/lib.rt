@@ -1,10 +1,10 @@
-// The calls of a unit, for firmware that links the archive (`embed/wegrulsta.h` declares them by their names for C) and for
-// Rattle, where they have the source's names. Each takes any state, profile, pool and buffer and comes back with its answer or
+// The calls of a unit, for Rattle, where they have the source's names, and for `controller_c`, which exports them to firmware by
+// the names that they have here (`embed/wegrulsta.h` declares them). Each takes any state, profile, pool and buffer and comes back with its answer or
 // with the number of the first question that has the answer "no" (docs/REFUSALS.md), and then nothing has changed. The caller
 // keeps the state, hands it in by value and gets it back; events and taken packets are octets at the front of a buffer that the
 // caller lends. Contracts cite `calls/specs/Gives.antt`.
 //
-// An exported function carries its call out itself: were it to hand on to another, the state would be copied once more. A
+// A function carries its call out itself: were it to hand on to another, the state would be copied once more. A
 // notice puts the new state together before it writes its event, for the same reason (docs/SPEED.md).
 #![tactic(auto)]
 
@@ -31,10 +31,10 @@ pub use opening::{
 };
 pub use packets::wegrulsta_packet as on_packet;
 pub use queries::{
-    Bitmap, Connected, FreeHandle, InUse, terminating,
+    Bitmap, Connected, FreeHandle, InUse, ReasonTold, terminating,
     wegrulsta_buffers_in_use as acl_buffers_in_use, wegrulsta_free_handle as free_handle,
     wegrulsta_has_connection as has_connection, wegrulsta_row_bitmap as row_bitmap,
-    wegrulsta_start as default_state,
+    wegrulsta_start as default_state, wegrulsta_terminating as terminating_reason,
 };
 use state::Controller;
 pub use taking::wegrulsta_take as take_transmit;

@@ -8,8 +8,7 @@ use profile::ControllerRow;
 use state::Controller;
 
 // A link opened. Question 6: is the handle present, or one of sixteen places free?
-#[unsafe(no_mangle)]
-pub extern "C" fn wegrulsta_open(
+pub fn wegrulsta_open(
     profile: ControllerRow,
     s: Controller,
     handle: u16,
@@ -52,8 +51,7 @@ fn refused(number: u8, s: Controller) -> Told
 }
 
 // A central's request to connect was accepted, from an address that is public where its type is 0. Questions 5 and 6.
-#[unsafe(no_mangle)]
-pub extern "C" fn wegrulsta_accept(
+pub fn wegrulsta_accept(
     profile: ControllerRow,
     s: Controller,
     handle: u16,
@@ -97,8 +95,7 @@ pub extern "C" fn wegrulsta_accept(
 }
 
 // High duty cycle directed advertising ended unanswered.
-#[unsafe(no_mangle)]
-pub extern "C" fn wegrulsta_advertising_timeout(
+pub fn wegrulsta_advertising_timeout(
     profile: ControllerRow,
     s: Controller,
     out: &mut [u8],

@@ -19,8 +19,7 @@ use state::Controller;
 
 // A packet of the host. The rows are opcodes, how each is answered, and their bit numbers; address is the public address, and
 // random the number that Rand returns, lowest octet first.
-#[unsafe(no_mangle)]
-pub extern "C" fn wegrulsta_packet(
+pub fn wegrulsta_packet(
     profile: ControllerRow,
     opcodes: &[u16],
     answers: &[u8],

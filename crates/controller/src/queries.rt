@@ -54,8 +54,7 @@ pub struct Bitmap {
 }
 
 // Whether a link has this handle.
-#[unsafe(no_mangle)]
-pub extern "C" fn wegrulsta_has_connection(
+pub fn wegrulsta_has_connection(
     profile: ControllerRow,
     s: Controller,
     handle: u16,
@@ -95,8 +94,7 @@ pub fn terminating(profile: ControllerRow, s: Controller, handle: u16) -> Discon
 }
 
 // The same for C, which has no enums that hold a value.
-#[unsafe(no_mangle)]
-pub extern "C" fn wegrulsta_terminating(
+pub fn wegrulsta_terminating(
     profile: ControllerRow,
     s: Controller,
     handle: u16,
@@ -122,8 +120,7 @@ fn reason_octet(reason: DisconnectReason) -> u8
 }
 
 // The lowest handle from 1 that no link has.
-#[unsafe(no_mangle)]
-pub extern "C" fn wegrulsta_free_handle(profile: ControllerRow, s: Controller) -> FreeHandle
+pub fn wegrulsta_free_handle(profile: ControllerRow, s: Controller) -> FreeHandle
     ensures { Finds profile s (λ m. links.free_handle m.links.connections) 0 result.number result.handle }
 {
     let held = state::holds(s, profile);
@@ -136,8 +133,7 @@ pub extern "C" fn wegrulsta_free_handle(profile: ControllerRow, s: Controller) -
 }
 
 // How many buffers are in use: packets that wait in all links, and those in flight.
-#[unsafe(no_mangle)]
-pub extern "C" fn wegrulsta_buffers_in_use(profile: ControllerRow, s: Controller) -> InUse
+pub fn wegrulsta_buffers_in_use(profile: ControllerRow, s: Controller) -> InUse
     ensures { Finds profile s (λ m. links.in_use m.links) 0 result.number result.count }
 {
     let held = state::holds(s, profile);
@@ -150,8 +146,7 @@ pub extern "C" fn wegrulsta_buffers_in_use(profile: ControllerRow, s: Controller
 }
 
 // The Supported_Commands bit map (Core Vol 4 Part E section 6.27) of the rows that are not unknown. Question 2.
-#[unsafe(no_mangle)]
-pub extern "C" fn wegrulsta_row_bitmap(opcodes: &[u16], answers: &[u8], bits: &[u16]) -> Bitmap
+pub fn wegrulsta_row_bitmap(opcodes: &[u16], answers: &[u8], bits: &[u16]) -> Bitmap
     ensures { FindsBitmap opcodes.now answers.now bits.now result.number result.map }
 {
     if !profile::rows_fit(opcodes, answers, bits) {
@@ -165,8 +160,7 @@ pub extern "C" fn wegrulsta_row_bitmap(opcodes: &[u16], answers: &[u8], bits: &[
 }
 
 // The state that a controller starts with.
-#[unsafe(no_mangle)]
-pub extern "C" fn wegrulsta_start() -> Controller
+pub fn wegrulsta_start() -> Controller
     ensures { Starts result }
 {
     state::default_state()

@@ -10,8 +10,7 @@ use profile::ControllerRow;
 use state::Controller;
 
 // Takes up to max packets of a link, oldest first, end to end to the front of out. Question 7: does out hold them all?
-#[unsafe(no_mangle)]
-pub extern "C" fn wegrulsta_take(
+pub fn wegrulsta_take(
     profile: ControllerRow,
     s: Controller,
     pool: &[u8],

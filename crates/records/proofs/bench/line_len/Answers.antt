@@ -1,0 +1,31 @@
+-- `records::bench::line_len` meets its contract: what it has passed is no newline.
+use mathlib.Core.Path.{◌≡◌, ◌∙◌}
+use Prim.Native.Nat.{◌≤◌, ◌-◌}
+use native.Mathlib.Omega.{arith}
+use lib.ListN.{length, take}
+use lib.Seq.{take-length}
+use borrow.Author.Tests.{eq-eqb, ne_eqb}
+use borrow.Author.Rules.{rules}
+use Rattle.lists.proofs.Search.{Searching, first_here, first_skip, first_end}
+use Rattle.records.specs.Bench.{is_newline}
+use Rattle.records.proofs.bench.line_len.Goals as goal
+
+pub returns-then-rest-i-eq10 : goal.returns-then-rest-i-eq10
+returns-then-rest-i-eq10 c =
+    let l = c.loop-i in
+    let line = c.args.rest.now in
+    rw take-length at (first_here line (length line) is_newline l.i 0 l.invariant.1 (eq-eqb _ _ c.if-rest-i-eq10.true)
+    (omega arith) (omega arith))
+
+pub loop-i-preserved : goal.loop-i-preserved
+loop-i-preserved c =
+    let l = c.loop-i in
+    let line = c.args.rest.now in
+    (search rules, first_skip line (length line) is_newline l.i 0 l.invariant.1 (ne_eqb _ _ c.if-rest-i-eq10.false)
+    (omega arith) (omega arith))
+
+pub returns : goal.returns
+returns c =
+    let line = c.args.rest.now in
+    let e : c.loop-i.i ≡ length line = omega arith in
+    e ∙ rw take-length at (first_end line (length line) is_newline c.loop-i.i c.loop-i.invariant.1 e)
