@@ -1,4 +1,4 @@
-/* Document 01's bench lines, from an archive of their own, libcapi_bench.a (`rt staticlib capi_bench`). For runs against the
+/* Document 01's bench lines, from an archive of their own, libcapi_bench.a (`embed/archives capi_bench`). For runs against the
  * source; a unit has no use for them. */
 #ifndef WEGRULSTA_BENCH_H
 #define WEGRULSTA_BENCH_H

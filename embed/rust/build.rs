@@ -1,4 +1,4 @@
-//! Finds the archives that `rt staticlib controller` and `rt staticlib capi` make, and has them linked; beside them, where it is
+//! Finds the archives that `embed/archives controller` and `embed/archives capi` make, and has them linked; beside them, where it is
 //! there, that of `capi_bench`, which only `bench` needs. They lie in target/staticlib of the repository, or in the folder that the
 //! environment variable WEGRULSTA_ARCHIVE names. Where one is not there the crate still compiles, so that what depends on it does
 //! too; a program that makes a call won't link then.
@@ -22,8 +22,8 @@ fn main() {
         link(&folder);
     } else {
         println!("cargo:linked=0");
-        println!("cargo:warning=no libcontroller.a and libcapi.a at {}: `rt staticlib controller` and", folder.display());
-        println!("cargo:warning=`rt staticlib capi` make them, or WEGRULSTA_ARCHIVE names another folder. wegrulsta::LINKED is");
+        println!("cargo:warning=no libcontroller.a and libcapi.a at {}: `embed/archives controller` and", folder.display());
+        println!("cargo:warning=`embed/archives capi` make them, or WEGRULSTA_ARCHIVE names another folder. wegrulsta::LINKED is");
         println!("cargo:warning=false, and calls won't link.");
     }
 }

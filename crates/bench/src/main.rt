@@ -3,12 +3,13 @@
 // printed for it is the crate `records`.
 #![tactic(auto)]
 
-ghost use Rattle.std.specs.Prelude.{◌≡◌, ◌≤◌, length};
+ghost use Rattle.std.specs.Prelude.{◌≡◌, ◌≤◌, length, IfOk, OnErr};
 ghost use Rattle.calls.specs.Calls.{held};
 ghost use Rattle.records.specs.Bench.{Running};
 
-use libc::{STDIN_FILENO, STDOUT_FILENO};
 use state::Controller;
+use std::io;
+use std::io::Read;
 
 // Between two parts of the input: the state, how many octets of a line are held, and whether the run goes on.
 #[derive(Clone, Copy)]
@@ -18,58 +19,70 @@ struct Reading {
     more: bool,
 }
 
-fn main() {
-    io::write_all(STDOUT_FILENO, b"H\t1\n");
+fn main(rt: HostRuntime) -> io::Result<()> {
+    rt.write_all(b"H\t1\n")?;
     let mut pool = [0u8; 64];
     let mut packet = [0u8; 1024];
     let mut line = [0u8; 2050];
     let s = controller::default_state();
-    let r = on_input(s, &mut pool, &mut line, &mut packet);
+    let mut input = rt.stdin();
+    let r = on_input(&rt, &mut input, s, &mut pool, &mut line, &mut packet)?;
     let n = r.held;
     let t = r.state;
     if r.more && n > 0 {
-        on_line(t, &mut pool, &line[..n], &mut packet);
+        on_line(&rt, t, &mut pool, &line[..n], &mut packet)?;
     }
+    Ok(())
 }
 
-// All of standard input. Nothing says that it ends, so the loop counts its turns down from a number that no run uses up.
-fn on_input(s: Controller, pool: &mut [u8], line: &mut [u8], packet: &mut [u8]) -> Reading
+// All of the input. Nothing says that it ends, so the loop has a number of turns that no run uses up. Where a read or a write
+// fails, here and below, the state is lost, and the pool still has its two places.
+fn on_input(
+    rt: &impl Print,
+    input: &mut impl Read,
+    s: Controller,
+    pool: &mut [u8],
+    line: &mut [u8],
+    packet: &mut [u8],
+) -> io::Result<Reading>
     requires { Running (held s pool.old) × ((length line.old ≡ 2050) × (1024 ≤ length packet.old)) }
-    ensures { Running (held result.state pool.new) × (result.held ≤ 2050) }
+    ensures ok { IfOk result (λ r. Running (held r.state pool.new) × (r.held ≤ 2050)) }
+    ensures err { OnErr result (64 ≤ length pool.new) }
 {
-    let mut turns = u64::MAX;
     let mut state = s;
     let mut held: usize = 0;
     let mut more = true;
-    let mut part = io::large_buffer();
-    while turns > 0 {
-        let got = libc::read(STDIN_FILENO, &mut part);
-        let n = io::count(got, &part);
+    let mut part = [0u8; 65536];
+    for _ in 0..u64::MAX {
+        let n = input.read(&mut part)?;
         if n == 0 {
-            turns = 0;
-        } else {
-            let r = on_part(state, pool, line, held, packet, &part[..n]);
-            state = r.state;
-            held = r.held;
-            more = r.more;
-            turns = if more { turns - 1 } else { 0 };
+            break;
+        }
+        let r = on_part(rt, state, pool, line, held, packet, &part[..n])?;
+        state = r.state;
+        held = r.held;
+        more = r.more;
+        if !more {
+            break;
         }
     }
-    Reading { state, held, more }
+    Ok(Reading { state, held, more })
 }
 
 // A part of the input, behind the octets of a line that are held: each line that ends in it is carried out, and what follows the
 // last newline is held.
 fn on_part(
+    rt: &impl Print,
     s: Controller,
     pool: &mut [u8],
     line: &mut [u8],
     before: usize,
     packet: &mut [u8],
     part: &[u8],
-) -> Reading
+) -> io::Result<Reading>
     requires { Running (held s pool.old) × ((before ≤ 2050) × ((length line.old ≡ 2050) × (1024 ≤ length packet.old))) }
-    ensures { Running (held result.state pool.new) × (result.held ≤ 2050) }
+    ensures ok { IfOk result (λ r. Running (held r.state pool.new) × (r.held ≤ 2050)) }
+    ensures err { OnErr result (64 ≤ length pool.new) }
 {
     let mut state = s;
     let mut held = before;
@@ -78,24 +91,25 @@ fn on_part(
         let end = newline_from(part, i);
         let next = end + 1;
         let ends = end < part.len();
-        let r = on_piece(state, pool, line, held, packet, &part[i..end], ends);
+        let r = on_piece(rt, state, pool, line, held, packet, &part[i..end], ends)?;
         if !r.more {
-            return r;
+            return Ok(r);
         }
         state = r.state;
         held = r.held;
         i = next;
     }
-    Reading {
+    Ok(Reading {
         state,
         held,
         more: true,
-    }
+    })
 }
 
 // Octets with no newline, behind those of the line that are held; a line that ends with them is carried out. A line of more than
 // 2,050 octets is no record.
 fn on_piece(
+    rt: &impl Print,
     s: Controller,
     pool: &mut [u8],
     line: &mut [u8],
@@ -103,26 +117,27 @@ fn on_piece(
     packet: &mut [u8],
     piece: &[u8],
     ends: bool,
-) -> Reading
+) -> io::Result<Reading>
     requires { Running (held s pool.old) × ((before ≤ 2050) × ((length line.old ≡ 2050) × (1024 ≤ length packet.old))) }
-    ensures { Running (held result.state pool.new) × (result.held ≤ 2050) }
+    ensures ok { IfOk result (λ r. Running (held r.state pool.new) × (r.held ≤ 2050)) }
+    ensures err { OnErr result (64 ≤ length pool.new) }
 {
     if piece.len() > 2050 - before {
-        return Reading {
+        return Ok(Reading {
             state: s,
             held: 0,
             more: false,
-        };
+        });
     }
     let n = octets::put(line, before, piece);
     if ends {
-        on_line(s, pool, &line[..n], packet)
+        on_line(rt, s, pool, &line[..n], packet)
     } else {
-        Reading {
+        Ok(Reading {
             state: s,
             held: n,
             more: true,
-        }
+        })
     }
 }
 
@@ -142,18 +157,25 @@ fn newline_from(part: &[u8], at: usize) -> usize
 }
 
 // One line: its answer is printed, and nothing is held.
-fn on_line(s: Controller, pool: &mut [u8], line: &[u8], packet: &mut [u8]) -> Reading
+fn on_line(
+    rt: &impl Print,
+    s: Controller,
+    pool: &mut [u8],
+    line: &[u8],
+    packet: &mut [u8],
+) -> io::Result<Reading>
     requires { Running (held s pool.old) × (1024 ≤ length packet.old) }
-    ensures { Running (held result.state pool.new) × (result.held ≤ 2050) }
+    ensures ok { IfOk result (λ r. Running (held r.state pool.new) × (r.held ≤ 2050)) }
+    ensures err { OnErr result (64 ≤ length pool.new) }
 {
     let mut out = [0u8; 512];
     let r = records::step(s, pool, line, packet, &mut out, 0);
     let n = r.next;
     let t = r.state;
-    io::write_all(STDOUT_FILENO, &out[..n]);
-    Reading {
+    rt.write_all(&out[..n])?;
+    Ok(Reading {
         state: t,
         held: 0,
         more: r.more,
-    }
+    })
 }

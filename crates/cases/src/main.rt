@@ -3,28 +3,28 @@
 #![tactic(auto)]
 
 use hci::{Has, Written};
-use libc::STDOUT_FILENO;
 use profile::ControllerRow;
 use state::Controller;
+use std::io;
 
-fn main() {
-    limits_and_rows();
-    together_and_pool();
-    event_room();
-    seventeenth_handle();
-    packet_room();
-    writers();
-    bit();
+fn main(rt: HostRuntime) -> io::Result<()> {
+    limits_and_rows(&rt)?;
+    together_and_pool(&rt)?;
+    event_room(&rt)?;
+    seventeenth_handle(&rt)?;
+    packet_room(&rt)?;
+    writers(&rt)?;
+    bit(&rt)
 }
 
-fn write(text: &[u8]) {
-    io::write_all(STDOUT_FILENO, text);
+fn write(rt: &impl Print, text: &[u8]) -> io::Result<()> {
+    rt.write_all(text)
 }
 
-fn line(text: &[u8], number: u8) {
-    write(text);
-    io::print_decimal(STDOUT_FILENO, number as u64);
-    write(b"\n");
+fn line(rt: &impl Print, text: &[u8], number: u8) -> io::Result<()> {
+    write(rt, text)?;
+    rt.print(number)?;
+    write(rt, b"\n")
 }
 
 // The bench's profile.
@@ -32,12 +32,12 @@ fn bench() -> ControllerRow {
     records::bench_profile()
 }
 
-fn limits_and_rows() {
+fn limits_and_rows(rt: &impl Print) -> io::Result<()> {
     let s = controller::default_state();
     let mut small = bench();
     small.acl_len = 26;
     let r = controller::drop_in_flight(small, s, 0);
-    line(b"acl_len 26: ", r.number);
+    line(rt, b"acl_len 26: ", r.number)?;
     let mut pool = [0u8; 64];
     let mut out = [0u8; 71];
     let reset = [0x01, 0x03, 0x0C, 0x00];
@@ -53,33 +53,33 @@ fn limits_and_rows() {
         &reset,
         &mut out,
     );
-    line(b"a row with answer 3: ", q.number);
+    line(rt, b"a row with answer 3: ", q.number)
 }
 
-fn together_and_pool() {
+fn together_and_pool(rt: &impl Print) -> io::Result<()> {
     let mut s = controller::default_state();
     s.links.count = 17;
     let r = controller::drop_in_flight(bench(), s, 0);
-    line(b"a state with 17 links: ", r.number);
+    line(rt, b"a state with 17 links: ", r.number)?;
     let t = controller::default_state();
     let pool = [0u8; 63];
     let mut out = [0u8; 64];
     let q = controller::take_transmit(bench(), t, &pool, 1, 1, &mut out);
-    line(b"a pool of 63 octets: ", q.number);
+    line(rt, b"a pool of 63 octets: ", q.number)
 }
 
-fn event_room() {
+fn event_room(rt: &impl Print) -> io::Result<()> {
     let s = controller::default_state();
     let mut out = [0u8; 70];
     let r = controller::completed(bench(), s, 1, 1, &mut out);
-    line(b"an event buffer of 70 octets: ", r.number);
+    line(rt, b"an event buffer of 70 octets: ", r.number)?;
     let mut more = [0u8; 71];
     let q = controller::completed(bench(), s, 1, 1, &mut more);
-    line(b"one of 71: ", q.number);
+    line(rt, b"one of 71: ", q.number)
 }
 
 // Sixteen links are open: a seventeenth handle is refused, one that is open is not.
-fn seventeenth_handle() {
+fn seventeenth_handle(rt: &impl Print) -> io::Result<()> {
     let mut s = controller::default_state();
     let mut handle: u16 = 1;
     while handle < 17 {
@@ -88,13 +88,13 @@ fn seventeenth_handle() {
         handle += 1;
     }
     let last = controller::open_connection(bench(), s, 17, 24, 0, 42);
-    line(b"a 17th handle: ", last.number);
+    line(rt, b"a 17th handle: ", last.number)?;
     let again = controller::open_connection(bench(), s, 16, 24, 0, 42);
-    line(b"the 16th again: ", again.number);
+    line(rt, b"the 16th again: ", again.number)
 }
 
 // A packet that waits, and a buffer of less octets than it has.
-fn packet_room() {
+fn packet_room(rt: &impl Print) -> io::Result<()> {
     let s = controller::default_state();
     let r = controller::open_connection(bench(), s, 1, 24, 0, 42);
     let mut pool = [0u8; 64];
@@ -114,21 +114,23 @@ fn packet_room() {
     );
     let mut five = [0u8; 5];
     let t = controller::take_transmit(bench(), q.state, &pool, 1, 1, &mut five);
-    line(b"a packet of 6 octets into 5: ", t.number);
+    line(rt, b"a packet of 6 octets into 5: ", t.number)
 }
 
-fn writers() {
+fn writers(rt: &impl Print) -> io::Result<()> {
     let params = [0u8; 256];
     let mut out = [0u8; 258];
     line(
+        rt,
         b"an event of 256 parameter octets: ",
         number(hci::event(0x0E, &params, &mut out)),
-    );
+    )?;
     let mut few = [0u8; 257];
     line(
+        rt,
         b"one of 255 into 257 octets: ",
         number(hci::event(0x0E, &params[..255], &mut few)),
-    );
+    )
 }
 
 // Document 01's number of a writer's answer.
@@ -140,11 +142,11 @@ fn number(written: Written) -> u8 {
     }
 }
 
-fn bit() {
+fn bit(rt: &impl Print) -> io::Result<()> {
     let has = hci::mask_has(0, 64);
     match has {
-        Has::Yes => line(b"bit 64: ", 0),
-        Has::No => line(b"bit 64: ", 0),
-        Has::NoSuchBit => line(b"bit 64: ", 10),
+        Has::Yes => line(rt, b"bit 64: ", 0),
+        Has::No => line(rt, b"bit 64: ", 0),
+        Has::NoSuchBit => line(rt, b"bit 64: ", 10),
     }
 }

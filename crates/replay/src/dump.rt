@@ -1,4 +1,4 @@
-// The whole state as octets in a fixed order, so that two states can be compared octet by octet. For calls.rt. Each function
+// The whole state as octets in a fixed order, so that two states can be compared octet by octet. For run_calls.rt. Each function
 // writes its part into out from index at on, and gives the index behind it.
 //
 // The parts follow each other without a gap, numbers low octet first, a flag as its octet, which the calls set to 0 or 1:

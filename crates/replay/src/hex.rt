@@ -1,24 +1,25 @@
-// Octets printed in hex, two digits each. For main.rt and calls.rt.
-use libc::STDOUT_FILENO;
+// Octets printed in hex, two digits each. For main.rt and run_calls.rt.
+use std::io;
 
-pub fn print_octet(octet: u8) {
-    io::print_hex(STDOUT_FILENO, octet as u64, 2);
+pub fn print_octet(rt: &impl Print, octet: u8) -> io::Result<()> {
+    print!(rt; "{octet:02x}")
 }
 
 // The low octet first.
-pub fn print_word(word: u16) {
-    print_octet((word % 256) as u8);
-    print_octet((word / 256) as u8);
+pub fn print_word(rt: &impl Print, word: u16) -> io::Result<()> {
+    print_octet(rt, (word % 256) as u8)?;
+    print_octet(rt, (word / 256) as u8)
 }
 
-pub fn print_all(octets: &[u8]) {
+pub fn print_all(rt: &impl Print, octets: &[u8]) -> io::Result<()> {
     let mut i = 0;
     while i < octets.len() {
-        print_octet(octets[i]);
+        print_octet(rt, octets[i])?;
         i += 1;
     }
+    Ok(())
 }
 
-pub fn print_newline() {
-    io::write_all(STDOUT_FILENO, b"\n");
+pub fn print_newline(rt: &impl Print) -> io::Result<()> {
+    rt.write_all(b"\n")
 }

@@ -1,4 +1,4 @@
-// What the four queries find, as octets in the order that calls.rt says. For calls.rt.
+// What the four queries find, as octets in the order that run_calls.rt says. For run_calls.rt.
 use crate::slices;
 use links::DisconnectReason;
 use profile::ControllerRow;

@@ -1,4 +1,4 @@
-// What a run is set up with, read from the octets of the sample. For main.rt, which reads those, and calls.rt.
+// What a run is set up with, read from the octets of the sample. For main.rt, which reads those, and run_calls.rt.
 //
 // A setup has 126 octets and then 5 for each row of the profile, at most 256 rows. Numbers stand low octet first:
 //     0  hci_version                  88  supported_states (8)         104  max_tx_octets (2)

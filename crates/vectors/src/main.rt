@@ -2,7 +2,7 @@
 // The file stdout has what the standard prints.
 #![tactic(auto)]
 
-use libc::STDOUT_FILENO;
+use std::io;
 
 // The key of A.1 and B.
 const KEY: [u8; 16] = [
@@ -19,60 +19,62 @@ const INPUT_C1: [u8; 16] = [
     0x00, 0x11, 0x22, 0x33, 0x44, 0x55, 0x66, 0x77, 0x88, 0x99, 0xaa, 0xbb, 0xcc, 0xdd, 0xee, 0xff,
 ];
 
-fn main() {
-    write(b"FIPS 197 A.1\n");
-    line(b"key ", KEY);
-    words(KEY);
-    write(b"FIPS 197 B\n");
-    example(INPUT_B, KEY);
-    write(b"FIPS 197 C.1\n");
-    example(INPUT_C1, KEY_C1);
+fn main(rt: HostRuntime) -> io::Result<()> {
+    write(&rt, b"FIPS 197 A.1\n")?;
+    line(&rt, b"key ", KEY)?;
+    words(&rt, KEY)?;
+    write(&rt, b"FIPS 197 B\n")?;
+    example(&rt, INPUT_B, KEY)?;
+    write(&rt, b"FIPS 197 C.1\n")?;
+    example(&rt, INPUT_C1, KEY_C1)
 }
 
 // The words of the key expansion.
-fn words(key: [u8; 16]) {
+fn words(rt: &impl Print, key: [u8; 16]) -> io::Result<()> {
     let w = aes::key_expansion(key);
     let mut i: usize = 0;
     while i < 44 {
-        word(i, w[i]);
+        word(rt, i, w[i])?;
         i += 1;
     }
+    Ok(())
 }
 
 // A line with word i of the key expansion.
-fn word(i: usize, w: [u8; 4]) {
-    write(b"w");
-    io::print_decimal(STDOUT_FILENO, i as u64);
-    write(b" ");
-    octets(&w);
-    write(b"\n");
+fn word(rt: &impl Print, i: usize, w: [u8; 4]) -> io::Result<()> {
+    write(rt, b"w")?;
+    rt.print(i)?;
+    write(rt, b" ")?;
+    octets(rt, &w)?;
+    write(rt, b"\n")
 }
 
 // A block, the key and the block encrypted.
-fn example(input: [u8; 16], key: [u8; 16]) {
-    line(b"input ", input);
-    line(b"key ", key);
-    line(b"output ", aes::encrypt_128(key, input));
+fn example(rt: &impl Print, input: [u8; 16], key: [u8; 16]) -> io::Result<()> {
+    line(rt, b"input ", input)?;
+    line(rt, b"key ", key)?;
+    line(rt, b"output ", aes::encrypt_128(key, input))
 }
 
-fn line(name: &[u8], block: [u8; 16]) {
-    write(name);
-    octets(&block);
-    write(b"\n");
+fn line(rt: &impl Print, name: &[u8], block: [u8; 16]) -> io::Result<()> {
+    write(rt, name)?;
+    octets(rt, &block)?;
+    write(rt, b"\n")
 }
 
-fn octets(s: &[u8]) {
+fn octets(rt: &impl Print, s: &[u8]) -> io::Result<()> {
     let mut i: usize = 0;
     while i < s.len() {
-        octet(s[i]);
+        octet(rt, s[i])?;
         i += 1;
     }
+    Ok(())
 }
 
-fn octet(b: u8) {
-    io::print_hex(STDOUT_FILENO, b as u64, 2);
+fn octet(rt: &impl Print, b: u8) -> io::Result<()> {
+    print!(rt; "{b:02x}")
 }
 
-fn write(text: &[u8]) {
-    io::write_all(STDOUT_FILENO, text);
+fn write(rt: &impl Print, text: &[u8]) -> io::Result<()> {
+    rt.write_all(text)
 }

@@ -29,6 +29,7 @@ use crate::{dump, hex, queries, setup, slices};
 use controller::{Changed, Told, Took};
 use profile::ControllerRow;
 use state::Controller;
+use std::io;
 
 // No answer has more octets: a run ends where less room is left.
 const LONGEST_ANSWER: usize = 40960;
@@ -55,7 +56,14 @@ struct Progress {
 
 // Answers the records from the default state on, and prints the answers. Setup has the octets that setup.rt reads, and the buffer
 // is lent to the calls. A record has three octets at least, so there are fewer turns than octets.
-pub fn answer_all(setup: &[u8], sizes: Sizes, records: &[u8], pool: &mut [u8], buffer: &mut [u8]) {
+pub fn answer_all(
+    rt: &impl Print,
+    setup: &[u8],
+    sizes: Sizes,
+    records: &[u8],
+    pool: &mut [u8],
+    buffer: &mut [u8],
+) -> io::Result<()> {
     let mut run = Progress {
         state: controller::default_state(),
         read: 0,
@@ -64,26 +72,28 @@ pub fn answer_all(setup: &[u8], sizes: Sizes, records: &[u8], pool: &mut [u8], b
     };
     let mut turns = records.len();
     while turns > 0 {
-        run = step(setup, sizes, run, records, pool, buffer);
+        run = step(rt, setup, sizes, run, records, pool, buffer)?;
         turns = if run.more { turns - 1 } else { 0 };
     }
+    Ok(())
 }
 
 // Answers the next record, if there is one and room for its answer.
 fn step(
+    rt: &impl Print,
     setup: &[u8],
     sizes: Sizes,
     run: Progress,
     records: &[u8],
     pool: &mut [u8],
     buffer: &mut [u8],
-) -> Progress {
+) -> io::Result<Progress> {
     let rest = slices::from(records, run.read);
     let n = record_length(rest);
     if n == 0 || run.room < LONGEST_ANSWER {
         let mut end = run;
         end.more = false;
-        return end;
+        return Ok(end);
     }
     let r = carry_out(
         setup,
@@ -94,12 +104,13 @@ fn step(
         buffer,
     );
     let state = r.state;
-    Progress {
+    let printed = print_reply(rt, octet_at(rest, 0), r, buffer)?;
+    Ok(Progress {
         state,
         read: std::num::wrapping_add_usize(run.read, n),
-        room: slices::less(run.room, print_reply(octet_at(rest, 0), r, buffer)),
+        room: slices::less(run.room, printed),
         more: true,
-    }
+    })
 }
 
 // How many octets the record at the front has, 0 where there is none.
@@ -131,16 +142,16 @@ fn is_record(kind: u8, n: usize) -> bool {
 }
 
 // Prints the answer to a record of this kind, and gives how many octets it has.
-fn print_reply(kind: u8, r: Reply, buffer: &[u8]) -> usize {
+fn print_reply(rt: &impl Print, kind: u8, r: Reply, buffer: &[u8]) -> io::Result<usize> {
     if kind < 11 {
-        hex::print_octet(r.number);
-        hex::print_octet((r.taken % 256) as u8);
+        hex::print_octet(rt, r.number)?;
+        hex::print_octet(rt, (r.taken % 256) as u8)?;
     }
     if kind < 12 {
-        hex::print_word((r.written % 65536) as u16);
+        hex::print_word(rt, (r.written % 65536) as u16)?;
     }
-    hex::print_all(slices::first(buffer, r.written));
-    answer_length(kind, r.written)
+    hex::print_all(rt, slices::first(buffer, r.written))?;
+    Ok(answer_length(kind, r.written))
 }
 
 // How many octets an answer has, with so many from the buffer.
