@@ -1,7 +1,6 @@
 -- Demand 3 of the controller's calls, proved: every call follows a rule of credits, so the claim about lists of calls holds. For
 -- the insurer's engineer; the claim is `Demand3` of specs/Agreement.antt.
 use mathlib.Core.Path.{◌≡◌, ap}
-use mathlib.Core.List.{List}
 use native.Mathlib.Omega.{arith}
 use lib.Dec.{eqb}
 use borrow.Author.Tests.{eqb-true, eqb-false}

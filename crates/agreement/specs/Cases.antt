@@ -4,7 +4,7 @@ use Rattle.std.specs.Prelude.{◌≡◌, ℕ, List, [], ◌∷◌}
 use Rattle.links.specs.Links.{in_use}
 use Rattle.state.specs.State.{Model, default_model}
 use Rattle.commands.specs.Cases as commands
-use Rattle.calls.specs.Packets.{Profile, Reply, reply, discarded}
+use Rattle.calls.specs.Packets.{Profile, reply, discarded}
 use Rattle.calls.specs.Calls.{on_packet, open_connection, reply_to}
 
 -- the bench sample: link 1 is open, and two packets of one octet came for it

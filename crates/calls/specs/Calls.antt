@@ -1,7 +1,6 @@
 -- The calls that users make, the questions that each goes through, and what each gives. For the contracts of `controller`, and
 -- for the theorem about lists of calls. Document 01, "The questions a call goes through" and "Port order".
-use Rattle.std.specs.Prelude.{ℕ, ◌+◌, ◌*◌, List, [], ◌∷◌, Bool, cond, leb, length}
-use Rattle.profile.specs.declared.ControllerRow.{ControllerRow}
+use Rattle.std.specs.Prelude.{ℕ, ◌*◌, List, [], ◌∷◌, Bool, cond, leb, length}
 use Rattle.profile.specs.Profile.{within_limits, rows_fit}
 use Rattle.links.specs.Links.{can_open, taken_from, after_taking}
 use Rattle.transmit.specs.Transmit.{taken_octets}

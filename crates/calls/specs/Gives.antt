@@ -12,7 +12,7 @@ use Rattle.state.specs.State.{Model, view, default_model}
 use Rattle.state.specs.Holding.{state_holds, StateHolds, place_size}
 use Rattle.state.specs.declared.Controller.{Controller}
 use Rattle.calls.specs.Packets.{Profile, queues, stored}
-use Rattle.calls.specs.Calls.{Call, on_packet, take_transmit, open_connection, completed, drop_in_flight, accept_connection, peer_update, request_ltk, complete_disconnect, remote_disconnect, advertising_timeout, Held, held, model_of, Question, first_no, limits, together, questions, reply_to, taken_by}
+use Rattle.calls.specs.Calls.{Call, on_packet, take_transmit, open_connection, completed, drop_in_flight, accept_connection, peer_update, request_ltk, complete_disconnect, remote_disconnect, advertising_timeout, Held, held, model_of, first_no, limits, together, questions, reply_to, taken_by}
 
 -- What a call answers: its number, 0 where it is accepted; how many octets it wrote to the front of the lent buffer and how many
 -- packets it took; the buffer as it came and as it was left, both [] for a call without one.

@@ -1,7 +1,7 @@
 -- What a packet from the host does and what the host hears of it: the source's `on_packet` and `acl`, as functions of the state
 -- (Core Vol 4 Part A section 2, Part E sections 4.1.1, 5.4.1 and 5.4.2). For the controller's calls, and for the theorem about
 -- lists of calls.
-use Rattle.std.specs.Prelude.{ℕ, ◌+◌, List, [], Bool, false, cond, ◌&&◌, leb, ltb, eqb, length, take}
+use Rattle.std.specs.Prelude.{ℕ, ◌+◌, List, [], Bool, false, cond, ◌&&◌, leb, ltb, eqb, take}
 use Rattle.octets.specs.Octets.{octet}
 use Rattle.hci.specs.Read.{parse_command, parameters, parse_acl}
 use Rattle.hci.specs.declared.read.Acl.{Acl}
@@ -14,7 +14,7 @@ use Rattle.profile.specs.Profile.{row_answer}
 use Rattle.links.specs.Links.{has, in_use, enqueued}
 use Rattle.state.specs.State.{Model, count_packet, count_dropped}
 use Rattle.commands.specs.Parts.{with_links, with_counters}
-use Rattle.commands.specs.Outcome.{Given, given}
+use Rattle.commands.specs.Outcome.{given}
 use Rattle.commands.specs.Command as whole
 
 -- a profile and its rows: opcodes, how each is answered, and their bit numbers

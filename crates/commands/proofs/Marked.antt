@@ -1,6 +1,5 @@
 -- Document 01's marked cases about commands. Each computes.
 use mathlib.Core.Path.{refl}
-use Rattle.lists.specs.Lists.{any}
 use Rattle.hci.specs.Read.{parse_command}
 use Rattle.commands.specs.Checks.{connection_params_valid}
 use Rattle.commands.specs.Known.{write_auth_payload_timeout, payload_timeout_short}

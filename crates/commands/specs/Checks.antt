@@ -1,5 +1,5 @@
 -- The tests of parameters that more than one command makes. For the definitions of the commands.
-use Rattle.std.specs.Prelude.{ℕ, ◌+◌, ◌*◌, Bool, ◌&&◌, ◌||◌, leb, ltb, eqb}
+use Rattle.std.specs.Prelude.{ℕ, ◌+◌, ◌*◌, Bool, ◌&&◌, leb, ltb, eqb}
 use Rattle.hci.specs.Bits.{bit_of}
 use Rattle.profile.specs.declared.ControllerRow.{ControllerRow}
 

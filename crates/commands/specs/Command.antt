@@ -1,6 +1,6 @@
 -- A command from its opcode on: the row of the profile, the advertising family, the table of commands, the counters and the last
 -- answers. Read beside the source's `command`. For callers of `command`, and for the theorem about lists of calls.
-use Rattle.std.specs.Prelude.{◌≡◌, ℕ, ◌/◌, ◌≤◌, List, [], ◌∷◌, ◌++◌, Bool, cond, not, ◌&&◌, ◌||◌, leb, eqb, length, get_or}
+use Rattle.std.specs.Prelude.{◌≡◌, ℕ, ◌/◌, List, [], ◌∷◌, ◌++◌, Bool, cond, not, ◌&&◌, ◌||◌, eqb, length, get_or}
 use Rattle.octets.specs.Octets.{le, Put}
 use Rattle.hci.specs.Opcode.{is_async}
 use Rattle.signed.specs.Signed.{octet_of}
@@ -9,7 +9,7 @@ use Rattle.answers.specs.declared.Form.{Form}
 use Rattle.answers.specs.declared.Form.TheVariants.{Complete, Status, Silent}
 use Rattle.answers.specs.Answers.{AnswerModel, complete, status, octets_of}
 use Rattle.state.specs.State.{Model, view, remember, count_command, count_unknown}
-use Rattle.state.specs.Holding.{StateHolds, place_size}
+use Rattle.state.specs.Holding.{StateHolds}
 use Rattle.state.specs.declared.Controller.{Controller}
 use Rattle.commands.specs.Status.{success, unknown_command, command_disallowed, unsupported_feature, invalid_parameters}
 use Rattle.commands.specs.Parts.{with_settings, with_counters, with_recent, with_advertising_family}

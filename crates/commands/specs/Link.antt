@@ -1,7 +1,7 @@
 -- The second half of `le`: what concerns links, encryption and data length (Core Vol 4 Part E sections 7.8.18 to 7.8.35). p are
 -- a command's parameter octets, cs the connections; tests stand in the order of the source.
 use Rattle.std.specs.Prelude.{ℕ, min, List, [], ◌∷◌, ◌++◌, reverse, Bool, cond, not, ◌&&◌, eqb, take, drop, get_or, replicate}
-use Rattle.octets.specs.Octets.{octet, is_yes, word, le}
+use Rattle.octets.specs.Octets.{is_yes, word, le}
 use Rattle.aes.specs.Aes.{aes128}
 use Rattle.profile.specs.declared.ControllerRow.{ControllerRow}
 use Rattle.answers.specs.Answers.{AnswerModel, complete, status, followed}

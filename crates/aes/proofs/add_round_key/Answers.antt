@@ -1,5 +1,4 @@
 -- add_round_key is AddRoundKey: row r is the sum of the state's row r and octet r of each of the four words.
-use borrow.Author.Rules.{rules}
 use Rattle.aes.proofs.Four.{each}
 use Rattle.aes.proofs.add_round_key.Goals as goal
 

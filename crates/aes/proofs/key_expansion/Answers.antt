@@ -1,10 +1,9 @@
 -- key_expansion is the key expansion. The loop's invariant is Keys, of proofs/Keys.antt.
 use mathlib.Core.Path.{refl}
-use Prim.Native.Nat.{◌-◌}
 use native.Mathlib.Omega.{arith}
 use borrow.Author.Rules.{rules}
 use Rattle.aes.specs.Aes.{key_expansion}
-use Rattle.aes.proofs.Keys.{Keys, step, whole}
+use Rattle.aes.proofs.Keys.{step, whole}
 use Rattle.aes.proofs.key_expansion.Goals as goal
 
 pub loop-i-init : goal.loop-i-init

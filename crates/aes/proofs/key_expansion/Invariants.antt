@@ -1,10 +1,6 @@
 -- key_expansion is the key expansion. The loop's invariant is Keys, of proofs/Keys.antt.
-use mathlib.Core.Path.{refl}
 use Prim.Native.Nat.{◌-◌}
-use native.Mathlib.Omega.{arith}
-use borrow.Author.Rules.{rules}
-use Rattle.aes.specs.Aes.{key_expansion}
-use Rattle.aes.proofs.Keys.{Keys, step, whole}
+use Rattle.aes.proofs.Keys.{Keys}
 use Rattle.aes.proofs.key_expansion.Given as goal
 
 abbrev pub invariant-loop-i : goal.invariant-loop-i

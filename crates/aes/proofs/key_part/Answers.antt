@@ -1,6 +1,5 @@
 -- key_part is what the key expansion adds to word i - 4, by the two cases of i % 4.
 use mathlib.Core.Path.{ap, ap₂, ◌∙◌}
-use borrow.Author.Rules.{rules}
 use borrow.Author.Tests.{eq-eqb, ne_eqb}
 use Rattle.aes.specs.Aes.{key_part, add_word, sub_word}
 use Rattle.aes.proofs.key_part.Goals as goal

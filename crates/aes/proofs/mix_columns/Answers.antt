@@ -1,5 +1,4 @@
 -- mix_columns is MixColumns, row by row.
-use borrow.Author.Rules.{rules}
 use Rattle.aes.proofs.Four.{each}
 use Rattle.aes.proofs.mix_columns.Goals as goal
 

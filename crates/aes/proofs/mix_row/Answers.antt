@@ -1,5 +1,4 @@
 -- mix_row is a row of MixColumns, octet by octet.
-use borrow.Author.Rules.{rules}
 use Rattle.aes.proofs.Four.{each}
 use Rattle.aes.proofs.mix_row.Goals as goal
 

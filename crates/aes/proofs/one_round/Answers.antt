@@ -2,7 +2,6 @@
 use mathlib.Core.Path.{ap, ◌∙◌}
 use mathlib.Core.List.{List}
 use Prim.Native.Nat.{ℕ}
-use borrow.Author.Rules.{rules}
 use Rattle.aes.specs.Aes.{round, add_round_key, mix_columns, shift_rows}
 use Rattle.aes.proofs.one_round.Goals as goal
 

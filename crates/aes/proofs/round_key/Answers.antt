@@ -1,6 +1,5 @@
 -- round_key is the four words of a round.
 use mathlib.Core.Path.{refl}
-use borrow.Author.Rules.{rules}
 use Rattle.aes.specs.Aes.{round_key}
 use Rattle.aes.proofs.round_key.Goals as goal
 

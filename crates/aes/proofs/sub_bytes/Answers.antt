@@ -1,5 +1,4 @@
 -- sub_bytes is SubBytes, row by row.
-use borrow.Author.Rules.{rules}
 use Rattle.aes.proofs.Four.{each}
 use Rattle.aes.proofs.sub_bytes.Goals as goal
 

@@ -1,5 +1,4 @@
 -- sub_word is SubWord, octet by octet.
-use borrow.Author.Rules.{rules}
 use Rattle.aes.proofs.Four.{each}
 use Rattle.aes.proofs.sub_word.Goals as goal
 

@@ -1,7 +1,6 @@
 -- `answers::followed_by` meets its contract.
 use native.Mathlib.Omega.{arith}
 use Rattle.octets.proofs.Writing.{put_front}
-use borrow.Author.Rules.{rules}
 use Rattle.answers.proofs.followed_by.Goals as goal
 
 pub returns : goal.returns

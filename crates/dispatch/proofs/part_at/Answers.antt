@@ -2,7 +2,6 @@
 use Prim.Native.Nat.{◌≤◌}
 use lib.ListN.{get_or}
 use native.Mathlib.Omega.{arith}
-use borrow.Author.Rules.{rules}
 use Rattle.dispatch.specs.Parts.{parts}
 use Rattle.dispatch.proofs.Choosing.{number_few}
 use Rattle.dispatch.proofs.part_at.Goals as goal

@@ -2,12 +2,11 @@
 -- where they stood.
 use mathlib.Core.Path.{◌≡◌, sym, ◌∙◌}
 use mathlib.Core.List.{List}
-use Prim.Native.Nat.{ℕ, ◌+◌, ◌-◌, ◌≤◌, ◌<◌}
+use Prim.Native.Nat.{ℕ, ◌+◌, ◌≤◌, ◌<◌}
 use native.Mathlib.Nat.{zero-add}
 use native.Mathlib.Omega.{arith}
 use lib.ListN.{length, take, drop, get_or, set, length-drop}
 use lib.Seq.{length-take-le, get_or-take, get_or-drop}
-use borrow.Author.Rules.{rules}
 use Rattle.octets.specs.Octets.{Put}
 use Rattle.octets.proofs.Copying.{Copying, begin, turn, end, ahead}
 use Rattle.octets.proofs.move_to_front.Goals as goal

@@ -1,9 +1,6 @@
 -- `octets::put` meets its contract: after j turns the first j octets of `src` are written.
 use mathlib.Core.Path.{refl}
-use Prim.Native.Nat.{◌-◌}
-use native.Mathlib.Omega.{arith}
-use lib.ListN.{length}
-use Rattle.octets.proofs.Copying.{Copying, begin, turn, end}
+use Rattle.octets.proofs.Copying.{begin, turn, end}
 use Rattle.octets.proofs.put.Goals as goal
 
 pub loop-j-init : goal.loop-j-init

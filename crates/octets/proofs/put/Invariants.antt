@@ -1,9 +1,7 @@
 -- `octets::put` meets its contract: after j turns the first j octets of `src` are written.
-use mathlib.Core.Path.{refl}
 use Prim.Native.Nat.{◌-◌}
-use native.Mathlib.Omega.{arith}
 use lib.ListN.{length}
-use Rattle.octets.proofs.Copying.{Copying, begin, turn, end}
+use Rattle.octets.proofs.Copying.{Copying}
 use Rattle.octets.proofs.put.Given as goal
 
 abbrev pub invariant-loop-j : goal.invariant-loop-j

@@ -1,6 +1,5 @@
 -- `octets::word_at` meets its contract.
 use native.Mathlib.Numerals.{add-one}
-use borrow.Author.Rules.{rules}
 use Rattle.octets.proofs.word_at.Goals as goal
 
 pub returns : goal.returns

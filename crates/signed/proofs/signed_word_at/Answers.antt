@@ -1,5 +1,4 @@
 -- `signed::signed_word_at` meets its contract.
-use borrow.Author.Rules.{rules}
 use Rattle.signed.proofs.Signs.{low_word, high_fits, high_word}
 use Rattle.signed.proofs.signed_word_at.Goals as goal
 

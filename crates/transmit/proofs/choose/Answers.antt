@@ -1,12 +1,10 @@
 -- `transmit::choose` meets its contract: after i turns the packets to be taken of the first i are gathered and measured.
-use mathlib.Core.Logic.{⊎_elim}
 use mathlib.Core.Path.{◌≡◌}
-use Prim.Native.Nat.{◌-◌}
 use native.Mathlib.Omega.{arith}
 use lib.ListN.{length}
 use borrow.Author.Rules.{rules}
 use Rattle.lists.proofs.Copying.{length_of_map}
-use Rattle.transmit.proofs.Choosing.{Choosing, choose_none, choose_more, choose_same, choose_end}
+use Rattle.transmit.proofs.Choosing.{choose_none, choose_more, choose_same}
 use Rattle.transmit.proofs.choose.Goals.{else-takes, then-takes}
 use Rattle.transmit.proofs.choose.Goals as goal
 

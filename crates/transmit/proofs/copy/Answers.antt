@@ -1,12 +1,10 @@
 -- `transmit::copy` meets its contract: after i turns the octets of the first i packets are written.
 use mathlib.Core.Path.{◌≡◌}
-use Prim.Native.Nat.{◌-◌}
 use native.Mathlib.Omega.{arith}
 use lib.ListN.{length}
 use borrow.Author.Rules.{rules}
 use Rattle.lists.proofs.Copying.{length_of_map}
-use Rattle.octets.proofs.Writing.{put_long}
-use Rattle.transmit.proofs.Octets.{Copying, copy_none, copy_fits, copy_more, copy_end}
+use Rattle.transmit.proofs.Octets.{copy_none, copy_fits, copy_more}
 use Rattle.transmit.proofs.copy.Goals as goal
 
 pub loop-i-init : goal.loop-i-init

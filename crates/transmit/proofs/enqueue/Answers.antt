@@ -1,13 +1,10 @@
 -- `transmit::enqueue` meets its contract, whichever free place it is given.
-use mathlib.Core.Path.{◌≡◌, sym}
-use native.Mathlib.Omega.{arith}
-use lib.Seq.{length-take-le}
+use mathlib.Core.Path.{◌≡◌}
 use lib.ListN.{length}
 use borrow.Author.Rules.{rules}
 use Rattle.lists.proofs.Copying.{length_of_map}
-use Rattle.octets.proofs.Writing.{put_long}
 use Rattle.transmit.proofs.Fitting.{all_below}
-use Rattle.transmit.proofs.Queueing.{queue_place, queue_room, queued}
+use Rattle.transmit.proofs.Queueing.{queued}
 use Rattle.transmit.proofs.enqueue.Goals as goal
 
 pub free_place-place-requires : goal.free_place-place-requires

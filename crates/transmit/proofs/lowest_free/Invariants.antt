@@ -1,10 +1,7 @@
 -- `transmit::lowest_free` meets its contract: the first place without a mark has not been met before `place`.
 use Prim.Native.Nat.{◌≤◌, ◌-◌}
-use native.Mathlib.Omega.{arith}
 use lib.ListN.{take}
-use borrow.Author.Tests.{eq-eqb, ne_eqb}
-use borrow.Author.Rules.{rules}
-use Rattle.lists.proofs.Search.{Searching, first_here, first_skip, first_end}
+use Rattle.lists.proofs.Search.{Searching}
 use Rattle.transmit.specs.Steps.{is_free}
 use Rattle.transmit.proofs.lowest_free.Given as goal
 

@@ -1,11 +1,9 @@
 -- `transmit::owned_places` meets its contract: after i turns the places of the first i packets are marked.
 use mathlib.Core.Path.{◌≡◌}
-use Prim.Native.Nat.{◌≤◌, ◌-◌}
 use native.Mathlib.Omega.{arith}
-use lib.ListN.{length, take}
+use lib.ListN.{length}
 use borrow.Author.Rules.{rules}
 use Rattle.lists.proofs.Copying.{length_of_map}
-use Rattle.transmit.specs.Steps.{Marks}
 use Rattle.transmit.proofs.Places.{marks_none, marks_more, marked_below}
 use Rattle.transmit.proofs.owned_places.Goals as goal
 

@@ -1,12 +1,6 @@
 -- `transmit::packets_left` meets its contract: after i turns what is left of the first i packets is kept.
-use mathlib.Core.Logic.{⊎_elim}
-use mathlib.Core.Path.{◌≡◌}
 use Prim.Native.Nat.{◌-◌}
-use native.Mathlib.Omega.{arith}
-use lib.ListN.{length}
-use borrow.Author.Rules.{rules}
-use Rattle.lists.proofs.Copying.{length_of_map}
-use Rattle.transmit.proofs.Choosing.{Removing, remove_none, remove_take, remove_keep, remove_end}
+use Rattle.transmit.proofs.Choosing.{Removing}
 use Rattle.transmit.proofs.packets_left.Given as goal
 
 abbrev pub invariant-loop-i : goal.invariant-loop-i

@@ -1,6 +1,4 @@
 -- `transmit::take` meets its contract: where the buffer is short nothing changes, else the packets are copied and in flight.
-use native.Mathlib.Omega.{arith}
-use Rattle.octets.proofs.Writing.{put_long}
 use Rattle.transmit.proofs.Taking.{take_refused, take_copies, take_done}
 use Rattle.transmit.proofs.take.Goals as goal
 

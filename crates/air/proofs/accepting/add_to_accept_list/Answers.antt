@@ -6,7 +6,6 @@ use Rattle.state.proofs.Holding.{passed, failed}
 use Rattle.state.proofs.Keeping.{accept_added}
 use Rattle.commands.specs.Air.{add_to_accept_list}
 use Rattle.commands.proofs.Giving.{gives_answer, holds_accept_list}
-use borrow.Author.Rules.{rules}
 use Rattle.air.proofs.accepting.add_to_accept_list.Goals as goal
 
 pub returns-then-accept_list_in_use : goal.returns-then-accept_list_in_use

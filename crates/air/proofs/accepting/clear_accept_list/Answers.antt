@@ -3,7 +3,6 @@ use mathlib.Core.Path.{sym, ◌∙◌}
 use Rattle.state.proofs.Keeping.{accept_empty}
 use Rattle.commands.specs.Air.{clear_accept_list}
 use Rattle.commands.proofs.Giving.{gives_answer, holds_accept_list}
-use borrow.Author.Rules.{rules}
 use Rattle.air.proofs.accepting.clear_accept_list.Goals as goal
 
 pub returns-then-accept_list_in_use : goal.returns-then-accept_list_in_use

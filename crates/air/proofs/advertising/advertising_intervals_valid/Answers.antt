@@ -4,7 +4,6 @@ use mathlib.Core.Bool.{not}
 use borrow.Author.Tests.{eq-eqb, ne_eqb}
 use Rattle.state.proofs.Holding.{passed, failed}
 use Rattle.commands.specs.Air.{advertising_intervals_valid}
-use borrow.Author.Rules.{rules}
 use Rattle.air.proofs.advertising.advertising_intervals_valid.Goals as goal
 
 pub returns-then-p-eq1 : goal.returns-then-p-eq1

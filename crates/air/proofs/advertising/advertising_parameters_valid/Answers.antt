@@ -4,7 +4,6 @@ use mathlib.Core.Bool.{not}
 use borrow.Author.Tests.{le-leb, lt-leb}
 use Rattle.state.proofs.Holding.{passed, failed}
 use Rattle.commands.specs.Air.{advertising_parameters_valid}
-use borrow.Author.Rules.{rules}
 use Rattle.air.proofs.advertising.advertising_parameters_valid.Goals as goal
 
 pub returns-then-not-advertising_intervals_valid : goal.returns-then-not-advertising_intervals_valid

@@ -1,11 +1,8 @@
 -- `air::advertising::is_zero` meets its contract.
-use Prim.Native.Nat.{◌≤◌, ◌<◌, ◌-◌}
-use mathlib.Core.Path.{◌≡◌, sym, ◌∙◌}
-use native.Mathlib.Omega.{arith}
-use lib.ListN.{length, replicate, get_or-replicate}
+use Prim.Native.Nat.{◌≤◌, ◌-◌}
+use lib.ListN.{replicate}
 use Rattle.lists.specs.Lists.{same_list}
-use Rattle.lists.proofs.Same.{Comparing, same_fails, same_next, same_holds}
-use borrow.Author.Rules.{rules}
+use Rattle.lists.proofs.Same.{Comparing}
 use Rattle.air.proofs.advertising.is_zero.Given as goal
 
 abbrev pub invariant-loop-i : goal.invariant-loop-i

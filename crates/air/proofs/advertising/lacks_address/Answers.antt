@@ -1,6 +1,5 @@
 -- `air::advertising::lacks_address` meets its contract.
 use borrow.Author.Tests.{eq-eqb, ne_eqb}
-use borrow.Author.Rules.{rules}
 use Rattle.air.proofs.advertising.lacks_address.Goals as goal
 
 pub returns-then-enable-ne1 : goal.returns-then-enable-ne1

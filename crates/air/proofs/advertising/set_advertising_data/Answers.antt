@@ -6,7 +6,6 @@ use Rattle.state.specs.State.{with_data}
 use Rattle.commands.specs.Air.{set_advertising_data}
 use Rattle.commands.proofs.Giving.{gives_answer, holds_advertising}
 use Rattle.air.proofs.Loading.{loaded}
-use borrow.Author.Rules.{rules}
 use Rattle.air.proofs.advertising.set_advertising_data.Goals as goal
 
 pub overflow_cast-data_len : goal.overflow_cast-data_len

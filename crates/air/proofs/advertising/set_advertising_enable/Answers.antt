@@ -3,7 +3,6 @@ use mathlib.Core.Path.{sym, ◌∙◌}
 use borrow.Author.Tests.{lt-ltb, le-ltb}
 use Rattle.commands.specs.Air.{set_advertising_enable}
 use Rattle.commands.proofs.Giving.{gives_answer, holds_advertising}
-use borrow.Author.Rules.{rules}
 use Rattle.air.proofs.advertising.set_advertising_enable.Goals as goal
 
 pub returns-then-enable-gt1 : goal.returns-then-enable-gt1

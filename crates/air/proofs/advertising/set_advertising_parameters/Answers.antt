@@ -7,7 +7,6 @@ use Rattle.state.proofs.Holding.{passed, failed}
 use Rattle.commands.specs.Air.{set_advertising_parameters}
 use Rattle.commands.proofs.Giving.{gives_answer, holds_advertising}
 use borrow.Author.Tests.{eq-eqb, ne_eqb}
-use borrow.Author.Rules.{rules}
 use Rattle.air.proofs.advertising.set_advertising_parameters.Goals as goal
 
 pub returns-then-advertising-ne0 : goal.returns-then-advertising-ne0

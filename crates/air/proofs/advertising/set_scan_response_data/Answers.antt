@@ -6,7 +6,6 @@ use Rattle.state.specs.State.{with_scan_response}
 use Rattle.commands.specs.Air.{set_scan_response_data}
 use Rattle.commands.proofs.Giving.{gives_answer, holds_advertising}
 use Rattle.air.proofs.Loading.{loaded}
-use borrow.Author.Rules.{rules}
 use Rattle.air.proofs.advertising.set_scan_response_data.Goals as goal
 
 pub overflow_cast-response_len : goal.overflow_cast-response_len

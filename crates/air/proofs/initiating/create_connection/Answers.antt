@@ -5,7 +5,6 @@ use Rattle.state.proofs.Holding.{passed, failed}
 use Rattle.commands.specs.Air.{create_connection}
 use Rattle.commands.proofs.Giving.{gives_answer, holds_scanning}
 use borrow.Author.Tests.{eq-eqb, ne_eqb}
-use borrow.Author.Rules.{rules}
 use Rattle.air.proofs.initiating.create_connection.Goals as goal
 
 pub returns-then-scanning-ne0 : goal.returns-then-scanning-ne0

@@ -3,7 +3,6 @@ use mathlib.Core.Path.{refl}
 use borrow.Author.Tests.{eq-eqb, ne_eqb}
 use Rattle.commands.specs.Air.{create_connection_cancel}
 use Rattle.commands.proofs.Giving.{answered_then, gives_answer, holds_scanning}
-use borrow.Author.Rules.{rules}
 use Rattle.air.proofs.initiating.create_connection_cancel.Goals as goal
 
 pub returns-then-scanning-eq0 : goal.returns-then-scanning-eq0

@@ -5,7 +5,6 @@ use borrow.Author.Tests.{le-leb, lt-leb}
 use Rattle.state.proofs.Holding.{passed, failed}
 use Rattle.commands.specs.Air.{create_connection_valid}
 use Rattle.air.proofs.ScanTimes.{times_failed, times_passed}
-use borrow.Author.Rules.{rules}
 use Rattle.air.proofs.initiating.create_connection_valid.Goals as goal
 
 pub returns-then-not-scan_times_valid : goal.returns-then-not-scan_times_valid

@@ -2,7 +2,6 @@
 use mathlib.Core.Path.{refl}
 use Rattle.commands.specs.Air.{read_buffer_size}
 use Rattle.commands.proofs.Giving.{answered}
-use borrow.Author.Rules.{rules}
 use Rattle.air.proofs.reading.read_buffer_size.Goals as goal
 
 pub returns : goal.returns

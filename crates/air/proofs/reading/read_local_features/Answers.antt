@@ -1,7 +1,6 @@
 -- `air::reading::read_local_features` meets its contract.
 use Rattle.commands.specs.Air.{read_local_features}
 use Rattle.commands.proofs.Giving.{answered}
-use borrow.Author.Rules.{rules}
 use Rattle.air.proofs.reading.read_local_features.Goals as goal
 
 pub returns : goal.returns

@@ -4,7 +4,6 @@ use mathlib.Core.Bool.{not}
 use borrow.Author.Tests.{le-leb, lt-leb}
 use Rattle.commands.specs.Air.{scan_parameters_valid}
 use Rattle.air.proofs.ScanTimes.{times_failed, times_passed}
-use borrow.Author.Rules.{rules}
 use Rattle.air.proofs.scanning.scan_parameters_valid.Goals as goal
 
 pub returns-then-p-gt1 : goal.returns-then-p-gt1

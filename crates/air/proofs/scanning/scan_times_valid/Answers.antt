@@ -2,7 +2,6 @@
 use mathlib.Core.Path.{ap}
 use mathlib.Core.Bool.{not}
 use Rattle.state.proofs.Holding.{passed, failed}
-use borrow.Author.Rules.{rules}
 use Rattle.air.proofs.scanning.scan_times_valid.Goals as goal
 
 pub returns-then-not-within : goal.returns-then-not-within

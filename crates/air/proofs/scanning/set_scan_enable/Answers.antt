@@ -3,7 +3,6 @@ use borrow.Author.Tests.{lt-ltb, le-ltb}
 use Rattle.lists.proofs.Copying.{listed_all}
 use Rattle.commands.specs.Air.{set_scan_enable}
 use Rattle.commands.proofs.Giving.{gives_answer, holds_scanning}
-use borrow.Author.Rules.{rules}
 use Rattle.air.proofs.scanning.set_scan_enable.Goals as goal
 
 pub returns-then-p-gt1 : goal.returns-then-p-gt1

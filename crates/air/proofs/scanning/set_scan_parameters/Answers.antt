@@ -7,7 +7,6 @@ use Rattle.octets.proofs.Writing.{put_whole}
 use Rattle.state.proofs.Holding.{passed, failed}
 use Rattle.commands.specs.Air.{set_scan_parameters}
 use Rattle.commands.proofs.Giving.{gives_answer, holds_scanning}
-use borrow.Author.Rules.{rules}
 use Rattle.air.proofs.scanning.set_scan_parameters.Goals as goal
 
 pub returns-then-enable-ne0 : goal.returns-then-enable-ne0

@@ -1,5 +1,4 @@
 -- `air::setting::set_le_event_mask` meets its contract.
-use borrow.Author.Rules.{rules}
 use Rattle.air.proofs.setting.set_le_event_mask.Goals as goal
 
 pub returns : goal.returns

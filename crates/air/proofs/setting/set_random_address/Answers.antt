@@ -3,7 +3,6 @@ use mathlib.Core.Path.{sym, ◌∙◌}
 use Rattle.octets.proofs.Writing.{put_whole}
 use Rattle.commands.specs.Air.{set_random_address}
 use Rattle.commands.proofs.Giving.{gives_answer, holds_settings}
-use borrow.Author.Rules.{rules}
 use Rattle.air.proofs.setting.set_random_address.Goals as goal
 
 pub returns-then-busy : goal.returns-then-busy

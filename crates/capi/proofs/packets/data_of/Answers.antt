@@ -1,5 +1,4 @@
 -- `capi::packets::data_of` meets its contract.
-use borrow.Author.Rules.{rules}
 use Rattle.capi.proofs.packets.data_of.Goals as goal
 
 pub returns-in-Whole : goal.returns-in-Whole

@@ -1,6 +1,5 @@
 -- `capi::packets::wegrulsta_read_acl` meets its contract.
 use mathlib.Core.Path.{ap, ◌∙◌}
-use borrow.Author.Rules.{rules}
 use Rattle.capi.specs.Packets.{acl_of}
 use Rattle.capi.proofs.packets.wegrulsta_read_acl.Goals as goal
 

@@ -1,6 +1,5 @@
 -- `capi::packets::wegrulsta_read_command` meets its contract.
 use mathlib.Core.Path.{ap, ◌∙◌}
-use borrow.Author.Rules.{rules}
 use Rattle.capi.specs.Packets.{command_of}
 use Rattle.capi.proofs.packets.wegrulsta_read_command.Goals as goal
 

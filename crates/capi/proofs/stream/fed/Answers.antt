@@ -1,5 +1,4 @@
 -- `capi::stream::fed` meets its contract.
-use borrow.Author.Rules.{rules}
 use Rattle.capi.proofs.stream.fed.Goals as goal
 
 pub returns-in-Packets : goal.returns-in-Packets

@@ -1,5 +1,4 @@
 -- `capi::stream::length_of` meets its contract.
-use borrow.Author.Rules.{rules}
 use Rattle.capi.proofs.stream.length_of.Goals as goal
 
 pub returns-in-Packet : goal.returns-in-Packet

@@ -1,6 +1,5 @@
 -- `capi::stream::wegrulsta_packet_length` meets its contract.
 use mathlib.Core.Path.{ap, ◌∙◌}
-use borrow.Author.Rules.{rules}
 use Rattle.capi.specs.Framing.{length_of}
 use Rattle.capi.proofs.stream.wegrulsta_packet_length.Goals as goal
 

@@ -1,7 +1,6 @@
 -- `capi::stream::wegrulsta_stream_packet` meets its contract.
 use mathlib.Core.Path.{ap}
 use lib.ListN.{length}
-use borrow.Author.Rules.{rules}
 use Rattle.capi.proofs.stream.wegrulsta_stream_packet.Goals as goal
 
 pub returns : goal.returns

@@ -1,5 +1,4 @@
 -- `commands::connection_params_valid` meets its contract: each early return is the first test of the definition that fails.
-use borrow.Author.Rules.{rules}
 use borrow.Author.Tests.{le-leb, lt-leb}
 use mathlib.Core.Path.{sym, ◌∙◌}
 use Rattle.commands.specs.Checks.{connection_params_valid}

@@ -1,5 +1,4 @@
 -- `commands::data_length_valid` meets its contract.
-use borrow.Author.Rules.{rules}
 use mathlib.Core.Path.{sym, ◌∙◌}
 use Rattle.commands.specs.Checks.{data_length_valid}
 use Rattle.commands.proofs.checks.data_length_valid.Goals as goal

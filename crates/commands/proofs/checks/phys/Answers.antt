@@ -1,6 +1,5 @@
 -- `commands::phys` meets its contract: shifts are divisions.
 use mathlib.Core.Path.{refl}
-use borrow.Author.Rules.{rules}
 use Rattle.commands.specs.Checks.{phys}
 use Rattle.commands.proofs.checks.phys.Goals as goal
 

@@ -1,6 +1,5 @@
 -- `commands::events::followed_by_connection_failed` meets its contract.
 use mathlib.Core.Path.{sym, ◌∙◌}
-use borrow.Author.Rules.{rules}
 use Rattle.commands.specs.Following.{le_meta_event, connection_failed}
 use Rattle.commands.proofs.Followed.{follows}
 use Rattle.commands.proofs.events.followed_by_connection_failed.Goals as goal

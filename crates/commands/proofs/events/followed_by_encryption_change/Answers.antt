@@ -1,5 +1,4 @@
 -- `commands::events::followed_by_encryption_change` meets its contract.
-use borrow.Author.Rules.{rules}
 use borrow.Author.Tests.{eq-eqb, ne_eqb}
 use Rattle.commands.specs.Following.{encryption_change}
 use Rattle.commands.proofs.Followed.{follows}

@@ -1,8 +1,5 @@
 -- `commands::events::followed_by_le` meets its contract.
-use mathlib.Core.Path.{sym}
-use native.Mathlib.Omega.{arith}
-use borrow.Author.Rules.{rules}
-use Rattle.octets.proofs.Writing.{put_front, put_front_long}
+use Rattle.octets.proofs.Writing.{put_front}
 use Rattle.commands.specs.Following.{le_meta_event}
 use Rattle.commands.proofs.Followed.{follows}
 use Rattle.commands.proofs.events.followed_by_le.Goals as goal

@@ -1,6 +1,5 @@
 -- `commands::fits` meets its contract.
 use mathlib.Core.Path.{sym, ◌∙◌}
-use borrow.Author.Rules.{rules}
 use Rattle.commands.proofs.Tables.{size_at, size_past}
 use Rattle.commands.proofs.table.fits.Goals as goal
 

@@ -1,5 +1,4 @@
 -- `dispatch::everything` meets its contract: Reset has the one row of its part.
-use borrow.Author.Rules.{rules}
 use Rattle.commands.specs.Table.{find}
 use Rattle.dispatch.specs.declared.Part.TheVariants.{Everything}
 use Rattle.dispatch.specs.Parts.{rows_of}

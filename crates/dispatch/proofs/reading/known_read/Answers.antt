@@ -1,6 +1,5 @@
 -- `reading::known_read` meets its contract: each arm answers what its row does, and no other opcode has a row.
 use mathlib.Core.Path.{refl}
-use borrow.Author.Rules.{rules}
 use Rattle.commands.specs.Outcome.{given}
 use Rattle.commands.specs.Table.{find}
 use Rattle.commands.proofs.Reached.{asked_look}

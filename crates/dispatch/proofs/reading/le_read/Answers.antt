@@ -1,6 +1,5 @@
 -- `reading::le_read` meets its contract: each arm answers what its row does, and no other opcode has a row.
 use mathlib.Core.Path.{refl}
-use borrow.Author.Rules.{rules}
 use borrow.Author.Tests.{eqb-true}
 use Rattle.commands.specs.Link.{set_host_channels}
 use Rattle.commands.specs.Outcome.{given}

@@ -1,5 +1,4 @@
 -- `dispatch::settings` meets its contract: each arm gives what its row does, and the last opcode alone is left for the last arm.
-use borrow.Author.Rules.{rules}
 use borrow.Author.Tests.{eqb-true}
 use Rattle.commands.specs.Table.{find}
 use Rattle.dispatch.specs.declared.Part.TheVariants.{Settings}

@@ -1,11 +1,8 @@
 -- `filters::differ::entries_differ` meets its contract: the first i entries differ and their marks are met.
-use Prim.Native.Nat.{◌-◌}
 use native.Mathlib.Omega.{arith}
-use mathlib.Core.Logic.{⊎_elim}
 use mathlib.Core.Path.{sym, ◌∙◌}
-use borrow.Author.Rules.{rules}
 use Rattle.filters.proofs.Flat.{within}
-use Rattle.filters.proofs.Differing.{Differing, differ_begin, unmet_none, differ_turn, differ_stop, differ_end}
+use Rattle.filters.proofs.Differing.{differ_begin, unmet_none, differ_turn, differ_stop, differ_end}
 use Rattle.filters.proofs.differ.entries_differ.Goals.{else-met-mark-via-then-met-mark+else-stands_before, else-met-mark-via-else-met-mark}
 use Rattle.filters.proofs.differ.entries_differ.Goals as goal
 

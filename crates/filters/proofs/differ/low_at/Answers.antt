@@ -2,7 +2,6 @@
 use native.Mathlib.Omega.{arith}
 use mathlib.Core.Path.{◌≡◌, ◌∙◌}
 use lib.ListN.{drop}
-use borrow.Author.Rules.{rules}
 use Rattle.octets.specs.Octets.{word}
 use Rattle.filters.specs.Keys.{low_of}
 use Rattle.filters.proofs.Identities.{number_drop}

@@ -1,15 +1,12 @@
 -- `filters::differ::stands_before` meets its contract: the entries before the one at i have other keys, and it stands at
 -- `place`.
-use Prim.Native.Nat.{◌-◌}
 use native.Mathlib.Omega.{arith}
-use mathlib.Core.Logic.{⊎_elim}
 use mathlib.Core.Path.{◌≡◌, refl, sym, ◌∙◌}
 use lib.ListN.{drop}
-use borrow.Author.Rules.{rules}
-use borrow.Author.Tests.{eqb-true, eqb-false, lt-ltb, le-ltb}
+use borrow.Author.Tests.{lt-ltb, le-ltb}
 use Rattle.filters.specs.Keys.{key_of}
 use Rattle.filters.proofs.Flat.{within, entry_found}
-use Rattle.filters.proofs.Identities.{Seeking, seek_begin, seek_here, seek_on, seek_end, same_low, octets_drop}
+use Rattle.filters.proofs.Identities.{seek_begin, seek_here, seek_on, seek_end, same_low, octets_drop}
 use Rattle.filters.proofs.differ.stands_before.Goals.{else-low_at-low-via-then-low_at-low+else-key_at-key, else-low_at-low-via-else-low_at-low}
 use Rattle.filters.proofs.differ.stands_before.Goals as goal
 

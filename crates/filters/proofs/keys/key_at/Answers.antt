@@ -5,7 +5,6 @@ use native.Mathlib.Omega.{arith}
 use mathlib.Core.Path.{ap, ◌∙◌}
 use lib.Seq.{get_or-drop}
 use lib.ListN.{length, drop, length-drop}
-use borrow.Author.Rules.{rules}
 use Rattle.lists.proofs.Copying.{listed_take}
 use Rattle.filters.specs.Keys.{key_of}
 use Rattle.filters.proofs.Identities.{key_front}

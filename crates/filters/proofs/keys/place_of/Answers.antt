@@ -1,11 +1,10 @@
 -- `filters::keys::place_of` meets its contract: the entries before the one at i have other keys, and it stands at `at`.
-use Prim.Native.Nat.{◌-◌}
 use native.Mathlib.Omega.{arith}
 use mathlib.Core.Path.{◌≡◌, ◌∙◌}
 use lib.ListN.{length}
 use borrow.Author.Rules.{rules}
 use Rattle.filters.proofs.Flat.{within}
-use Rattle.filters.proofs.Identities.{Octets, Seeking, seek_begin, seek_here, seek_on, seek_end, first_key}
+use Rattle.filters.proofs.Identities.{Octets, seek_begin, seek_here, seek_on, seek_end, first_key}
 use Rattle.filters.proofs.keys.place_of.Goals as goal
 
 pub loop-i-init : goal.loop-i-init

@@ -1,5 +1,4 @@
 -- `filters::resolving::identity` meets its contract.
-use borrow.Author.Rules.{rules}
 use Rattle.lists.proofs.Copying.{listed_take}
 use Rattle.filters.proofs.resolving.identity.Goals as goal
 

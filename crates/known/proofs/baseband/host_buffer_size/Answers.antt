@@ -1,6 +1,5 @@
 -- `known::baseband::host_buffer_size` meets its contract.
 use mathlib.Core.Path.{refl}
-use borrow.Author.Rules.{rules}
 use Rattle.commands.specs.Known.{host_buffer_size}
 use Rattle.commands.proofs.Giving.{answered}
 use Rattle.known.proofs.baseband.host_buffer_size.Goals as goal

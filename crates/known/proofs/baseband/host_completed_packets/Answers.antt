@@ -1,6 +1,5 @@
 -- `known::baseband::host_completed_packets` meets its contract.
 use native.Mathlib.Omega.{arith}
-use borrow.Author.Rules.{rules}
 use borrow.Author.Tests.{eq-eqb, ne_eqb}
 use Rattle.commands.specs.Known.{host_completed_packets}
 use Rattle.commands.proofs.Giving.{answered}

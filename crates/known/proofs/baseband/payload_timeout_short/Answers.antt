@@ -2,7 +2,6 @@
 use Prim.Native.Nat.{◌≤◌, ◌+◌, ◌*◌}
 use native.Mathlib.Omega.{arith}
 use native.Mathlib.Nat.{mul-le-mul}
-use borrow.Author.Rules.{rules}
 use borrow.Author.Tests.{eq-eqb, ne_eqb}
 use Rattle.commands.specs.Known.{payload_timeout_short}
 use Rattle.known.proofs.baseband.payload_timeout_short.Goals as goal

@@ -1,6 +1,5 @@
 -- `known::baseband::read_auth_payload_timeout` meets its contract.
 use mathlib.Core.Path.{sym, ◌∙◌}
-use borrow.Author.Rules.{rules}
 use Rattle.commands.specs.Known.{read_auth_payload_timeout}
 use Rattle.commands.proofs.Giving.{answered}
 use Rattle.known.proofs.baseband.read_auth_payload_timeout.Goals as goal

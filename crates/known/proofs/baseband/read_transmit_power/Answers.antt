@@ -1,7 +1,6 @@
 -- `known::baseband::read_transmit_power` meets its contract.
 use mathlib.Core.Path.{sym, ◌∙◌}
-use borrow.Author.Rules.{rules}
-use borrow.Author.Tests.{lt-ltb, le-ltb, not-true, not-false}
+use borrow.Author.Tests.{lt-ltb, le-ltb}
 use Rattle.commands.specs.Known.{read_transmit_power}
 use Rattle.commands.proofs.Giving.{answered}
 use Rattle.known.proofs.baseband.read_transmit_power.Goals as goal

@@ -1,6 +1,5 @@
 -- `known::baseband::reset` meets its contract.
 use mathlib.Core.Path.{sym, ap}
-use borrow.Author.Rules.{rules}
 use Rattle.commands.specs.Outcome.{outcome, done}
 use Rattle.commands.specs.Known.{reset}
 use Rattle.commands.proofs.Giving.{gives_answer}

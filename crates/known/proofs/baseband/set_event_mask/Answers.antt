@@ -1,6 +1,5 @@
 -- `known::baseband::set_event_mask` meets its contract.
 use mathlib.Core.Path.{ap}
-use borrow.Author.Rules.{rules}
 use Rattle.commands.specs.Parts.{with_event_mask}
 use Rattle.known.proofs.baseband.set_event_mask.Goals as goal
 

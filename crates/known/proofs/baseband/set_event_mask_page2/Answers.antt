@@ -1,6 +1,5 @@
 -- `known::baseband::set_event_mask_page2` meets its contract.
 use mathlib.Core.Path.{ap}
-use borrow.Author.Rules.{rules}
 use Rattle.commands.specs.Parts.{with_event_mask_page2}
 use Rattle.known.proofs.baseband.set_event_mask_page2.Goals as goal
 

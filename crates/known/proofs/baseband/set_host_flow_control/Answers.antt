@@ -1,5 +1,4 @@
 -- `known::baseband::set_host_flow_control` meets its contract.
-use borrow.Author.Rules.{rules}
 use borrow.Author.Tests.{lt-ltb, le-ltb}
 use Rattle.commands.specs.Known.{set_host_flow_control}
 use Rattle.commands.proofs.Giving.{gives_answer, holds_settings}

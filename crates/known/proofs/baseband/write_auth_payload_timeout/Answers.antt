@@ -1,6 +1,5 @@
 -- `known::baseband::write_auth_payload_timeout` meets its contract.
 use mathlib.Core.Path.{refl, sym, ◌∙◌}
-use borrow.Author.Rules.{rules}
 use Rattle.links.specs.Fields.{with_auth_payload_timeout}
 use Rattle.commands.specs.Known.{write_auth_payload_timeout}
 use Rattle.commands.proofs.Giving.{answered, gives_answer, gives_changed}

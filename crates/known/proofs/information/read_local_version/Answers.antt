@@ -1,6 +1,5 @@
 -- `known::information::read_local_version` meets its contract.
 use mathlib.Core.Path.{refl}
-use borrow.Author.Rules.{rules}
 use Rattle.commands.specs.Known.{read_local_version}
 use Rattle.commands.proofs.Giving.{answered}
 use Rattle.known.proofs.information.read_local_version.Goals as goal

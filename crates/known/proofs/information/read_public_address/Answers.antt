@@ -1,5 +1,4 @@
 -- `known::information::read_public_address` meets its contract.
-use borrow.Author.Rules.{rules}
 use Rattle.commands.specs.Known.{read_public_address}
 use Rattle.known.proofs.information.read_public_address.Goals as goal
 

@@ -1,8 +1,6 @@
 -- `known::information::read_rssi` meets its contract.
 use mathlib.Core.Path.{◌≡◌, sym, ◌∙◌}
 use mathlib.Core.Bool.{true, false}
-use borrow.Author.Rules.{rules}
-use borrow.Author.Tests.{not-true, not-false}
 use Rattle.octets.specs.Octets.{word}
 use Rattle.links.specs.Links.{has, opened}
 use Rattle.commands.specs.Known.{read_rssi}

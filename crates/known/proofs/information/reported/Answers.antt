@@ -1,7 +1,6 @@
 -- `known::information::reported` meets its contract.
 use mathlib.Core.Path.{sym, ap}
 use native.Mathlib.Omega.{arith}
-use borrow.Author.Rules.{rules}
 use Rattle.octets.proofs.Writing.{put_front, put_front_long}
 use Rattle.answers.specs.Answers.{complete}
 use Rattle.commands.proofs.Giving.{answered}

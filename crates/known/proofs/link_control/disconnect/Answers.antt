@@ -1,7 +1,6 @@
 -- `known::link_control::disconnect` meets its contract.
 use mathlib.Core.Path.{refl, sym, ◌∙◌}
-use borrow.Author.Rules.{rules}
-use borrow.Author.Tests.{eq-eqb, ne_eqb, not-true, not-false}
+use borrow.Author.Tests.{eq-eqb, ne_eqb}
 use Rattle.links.specs.Fields.{with_terminating}
 use Rattle.commands.specs.Known.{disconnect}
 use Rattle.commands.proofs.Giving.{answered, gives_answer, gives_changed}

@@ -1,7 +1,5 @@
 -- `known::link_control::read_remote_version` meets its contract.
 use mathlib.Core.Path.{sym, ◌∙◌}
-use borrow.Author.Rules.{rules}
-use borrow.Author.Tests.{not-true, not-false}
 use Rattle.commands.specs.Following.{remote_version_complete}
 use Rattle.commands.specs.Known.{read_remote_version}
 use Rattle.commands.proofs.Giving.{answered, answered_then}

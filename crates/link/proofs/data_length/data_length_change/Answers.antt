@@ -1,5 +1,4 @@
 -- `link::data_length::data_length_change` meets its contract.
-use borrow.Author.Rules.{rules}
 use Rattle.commands.proofs.Giving.{answered, answered_then}
 use Rattle.link.proofs.data_length.data_length_change.Goals as goal
 

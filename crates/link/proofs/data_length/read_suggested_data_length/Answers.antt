@@ -1,6 +1,5 @@
 -- `link::data_length::read_suggested_data_length` meets its contract.
 use mathlib.Core.Path.{refl}
-use borrow.Author.Rules.{rules}
 use Rattle.commands.specs.Link.{read_suggested_data_length}
 use Rattle.commands.proofs.Giving.{answered}
 use Rattle.link.proofs.data_length.read_suggested_data_length.Goals as goal

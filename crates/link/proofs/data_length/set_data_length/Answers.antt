@@ -2,7 +2,6 @@
 use mathlib.Core.Path.{ap}
 use mathlib.Core.Bool.{not}
 use mathlib.Core.Path.{refl, sym, ◌∙◌}
-use borrow.Author.Rules.{rules}
 use Rattle.links.specs.Fields.{with_data_length}
 use Rattle.commands.specs.Link.{set_data_length}
 use Rattle.commands.proofs.Giving.{gives_answer, gives_changed}

@@ -1,7 +1,6 @@
 -- `link::data_length::write_suggested_data_length` meets its contract.
 use mathlib.Core.Path.{ap}
 use mathlib.Core.Bool.{not}
-use borrow.Author.Rules.{rules}
 use Rattle.commands.specs.Link.{write_suggested_data_length}
 use Rattle.commands.proofs.Giving.{gives_answer, holds_settings}
 use Rattle.link.proofs.data_length.write_suggested_data_length.Goals as goal

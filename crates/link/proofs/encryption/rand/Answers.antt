@@ -1,5 +1,4 @@
 -- `link::encryption::rand` meets its contract.
-use borrow.Author.Rules.{rules}
 use Rattle.commands.specs.Link.{rand}
 use Rattle.commands.proofs.Giving.{answered}
 use Rattle.link.proofs.encryption.rand.Goals as goal

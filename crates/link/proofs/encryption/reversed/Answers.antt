@@ -1,6 +1,5 @@
 -- `link::encryption::reversed` meets its contract.
 use native.Mathlib.Nat.{add-zero}
-use borrow.Author.Rules.{rules}
 use Rattle.link.proofs.Reversing.{backward_reverse}
 use Rattle.link.proofs.encryption.reversed.Goals as goal
 

@@ -2,7 +2,6 @@
 use mathlib.Core.Path.{ap}
 use mathlib.Core.Bool.{not}
 use borrow.Author.Tests.{not-true, not-false}
-use borrow.Author.Rules.{rules}
 use Rattle.commands.specs.Link.{enable_encryption}
 use Rattle.commands.proofs.Giving.{answered, answered_then}
 use Rattle.link.proofs.keys.enable_encryption.Goals as goal

@@ -1,7 +1,6 @@
 -- `link::keys::key_reply` meets its contract.
 use mathlib.Core.Path.{refl, sym, ◌∙◌}
 use borrow.Author.Tests.{eq-eqb, ne_eqb}
-use borrow.Author.Rules.{rules}
 use Rattle.links.specs.Fields.{with_ltk_requested}
 use Rattle.commands.proofs.Giving.{gives_answer, gives_changed}
 use Rattle.link.proofs.keys.key_reply.Goals as goal

@@ -1,7 +1,6 @@
 -- `link::keys::long_term_key_negative_reply` meets its contract.
 use mathlib.Core.Path.{refl}
 use mathlib.Core.List.{[]}
-use borrow.Author.Rules.{rules}
 use Rattle.commands.specs.Link.{long_term_key_negative_reply}
 use Rattle.commands.proofs.Giving.{answered, gives_as}
 use Rattle.link.proofs.keys.long_term_key_negative_reply.Goals as goal

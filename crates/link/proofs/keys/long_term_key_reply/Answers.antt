@@ -1,6 +1,5 @@
 -- `link::keys::long_term_key_reply` meets its contract.
 use mathlib.Core.Path.{refl}
-use borrow.Author.Rules.{rules}
 use Rattle.commands.specs.Link.{long_term_key_reply}
 use Rattle.commands.proofs.Giving.{answered_then, gives_as}
 use Rattle.link.proofs.keys.long_term_key_reply.Goals as goal

@@ -1,5 +1,4 @@
 -- `link::remote::read_channel_map` meets its contract.
-use borrow.Author.Rules.{rules}
 use Rattle.commands.specs.Link.{read_channel_map}
 use Rattle.commands.proofs.Giving.{answered}
 use Rattle.link.proofs.remote.read_channel_map.Goals as goal

@@ -2,7 +2,6 @@
 use mathlib.Core.Path.{ap}
 use mathlib.Core.Bool.{not}
 use borrow.Author.Tests.{not-true, not-false}
-use borrow.Author.Rules.{rules}
 use Rattle.commands.specs.Link.{read_remote_features}
 use Rattle.commands.proofs.Giving.{answered, answered_then}
 use Rattle.link.proofs.remote.read_remote_features.Goals as goal

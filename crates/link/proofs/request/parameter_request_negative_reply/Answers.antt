@@ -1,5 +1,4 @@
 -- `link::request::parameter_request_negative_reply` meets its contract.
-use borrow.Author.Rules.{rules}
 use Rattle.commands.specs.Link.{parameter_request_negative_reply}
 use Rattle.commands.proofs.Giving.{answered}
 use Rattle.link.proofs.request.parameter_request_negative_reply.Goals as goal

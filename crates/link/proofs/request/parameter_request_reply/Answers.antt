@@ -1,7 +1,6 @@
 -- `link::request::parameter_request_reply` meets its contract.
 use mathlib.Core.Path.{ap}
 use mathlib.Core.Bool.{not}
-use borrow.Author.Rules.{rules}
 use Rattle.octets.specs.Octets.{word}
 use Rattle.commands.specs.Outcome.{done_handle}
 use Rattle.commands.specs.Link.{parameter_request_reply}

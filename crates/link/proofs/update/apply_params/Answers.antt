@@ -1,5 +1,4 @@
 -- `link::update::apply_params` meets its contract.
-use borrow.Author.Rules.{rules}
 use Rattle.link.proofs.update.apply_params.Goals as goal
 
 pub returns : goal.returns

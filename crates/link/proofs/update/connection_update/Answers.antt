@@ -2,7 +2,6 @@
 use mathlib.Core.Path.{ap}
 use mathlib.Core.Bool.{not}
 use mathlib.Core.Path.{refl}
-use borrow.Author.Rules.{rules}
 use Rattle.answers.specs.Answers.{status}
 use Rattle.commands.specs.Link.{connection_update}
 use Rattle.commands.proofs.Giving.{answered}

@@ -1,5 +1,4 @@
 -- `link::update::update_valid` meets its contract.
-use borrow.Author.Rules.{rules}
 use Rattle.link.proofs.update.update_valid.Goals as goal
 
 pub returns : goal.returns

@@ -3,7 +3,6 @@ use Rattle.links.specs.Change.{other_than}
 use Rattle.links.proofs.Changing.{kept_few, ended_lists, ended_view}
 use lib.ListN.{length-take}
 use native.Mathlib.Omega.{arith}
-use borrow.Author.Rules.{rules}
 use Rattle.links.proofs.change.end_connection.Goals as goal
 
 pub discard_waiting-requires : goal.discard_waiting-requires

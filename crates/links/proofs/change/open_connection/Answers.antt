@@ -5,7 +5,6 @@ use Rattle.links.specs.Change.{away_from}
 use Rattle.links.proofs.Changing.{kept_few, room_left, pushed_lists, opened_view}
 use Prim.Native.Nat.{◌≤◌}
 use native.Mathlib.Omega.{arith}
-use borrow.Author.Rules.{rules}
 use Rattle.links.proofs.change.open_connection.Goals as goal
 
 pub push_connection-requires : goal.push_connection-requires

@@ -1,11 +1,8 @@
 -- `links::hold::handles_differ` meets its contract: the lowest octets differ, or else, in the loop, each handle before index i
 -- stands once among all sixteen.
 use borrow.Author.Count.{below_more}
-use Rattle.links.specs.Gather.{times_in}
 use Rattle.links.proofs.Gather.{handles_first, handles_once, handles_twice}
-use Prim.Native.Nat.{ℕ, ◌≤◌, ◌<◌, ◌-◌}
-use mathlib.Core.Path.{◌≡◌, sym, ◌∙◌}
-use lib.ListN.{get_or}
+use mathlib.Core.Path.{sym, ◌∙◌}
 use native.Mathlib.Omega.{arith}
 use borrow.Author.Rules.{rules}
 use Rattle.links.proofs.hold.handles_differ.Goals as goal

@@ -2,10 +2,9 @@
 use borrow.Author.Tests.{lt-ltb}
 use Rattle.lists.specs.Lists.{all}
 use Rattle.lists.proofs.Copying.{length_of_map}
-use Rattle.links.specs.Gather.{Gathers, is_handle}
+use Rattle.links.specs.Gather.{is_handle}
 use Rattle.lists.proofs.Prefix.{all_more}
 use Rattle.links.proofs.Gather.{gather_start, gather_more}
-use Prim.Native.Nat.{◌≤◌, ◌-◌}
 use mathlib.Core.Path.{◌≡◌, refl}
 use lib.ListN.{length}
 use native.Mathlib.Omega.{arith}

@@ -1,5 +1,5 @@
 -- `links::hold::links_hold` meets its contract.
-use borrow.Author.Tests.{le-leb, lt-leb, not-true, not-false}
+use borrow.Author.Tests.{le-leb, lt-leb}
 use lib.Seq.{length-take-le}
 use Rattle.lists.proofs.Copying.{length_of_map}
 use Rattle.links.specs.Holding.{links_hold}

@@ -1,11 +1,10 @@
 -- `links::hold::lowest_octets_differ` meets its contract: the lowest octets of the first i numbers differ and are marked.
-use mathlib.Core.Bool.{true, true≢false}
-use lib.ListN.{length-set, length, take}
-use Rattle.lists.specs.Lists.{distinct_by, distinct}
+use mathlib.Core.Bool.{true≢false}
+use lib.ListN.{length-set, take}
+use Rattle.lists.specs.Lists.{distinct_by}
 use Rattle.lists.proofs.Prefix.{differ_more}
-use Rattle.lists.proofs.Marking.{Marks, marks_none, marks_more}
+use Rattle.lists.proofs.Marking.{marks_none, marks_more}
 use Rattle.links.proofs.Marking.{lowest_octet, octets_differ}
-use Prim.Native.Nat.{◌≤◌, ◌-◌}
 use mathlib.Core.Path.{◌≡◌, refl, sym, ◌∙◌}
 use native.Mathlib.Omega.{arith}
 use borrow.Author.Rules.{rules}

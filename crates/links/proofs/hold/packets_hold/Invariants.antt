@@ -1,20 +1,15 @@
 -- `links::hold::packets_hold` meets its contract: the first i packets hold, their places differ and are marked. The gathered
 -- handles are all that the loop knows of the links, so the invariant speaks of any links that they were gathered from.
-use mathlib.Core.Bool.{true, and-false}
-use lib.ListN.{length-set, length, take}
-use borrow.Author.Tests.{not-true, not-false}
-use Rattle.lists.specs.Lists.{all, distinct_by, distinct}
-use Rattle.lists.proofs.Copying.{length_of_map}
+use mathlib.Core.Bool.{true}
+use lib.ListN.{length, take}
+use Rattle.lists.specs.Lists.{all, distinct}
 use Rattle.links.specs.declared.Connection.{Connection}
 use Rattle.links.specs.Holding.{place_of}
 use Rattle.links.specs.Gather.{gathered, packet_holds}
-use Rattle.lists.proofs.Prefix.{all_more, differ_more, differ_fails, all_not}
-use Rattle.lists.proofs.Marking.{Marks, marks_none, marks_more}
+use Rattle.lists.proofs.Marking.{Marks}
 use Prim.Native.Nat.{ℕ, ◌≤◌, ◌-◌}
-use mathlib.Core.Path.{◌≡◌, refl, sym, ◌∙◌}
+use mathlib.Core.Path.{◌≡◌}
 use mathlib.Core.List.{List}
-use native.Mathlib.Omega.{arith}
-use borrow.Author.Rules.{rules}
 use Rattle.links.proofs.hold.packets_hold.Given as goal
 
 abbrev pub invariant-loop-i : goal.invariant-loop-i

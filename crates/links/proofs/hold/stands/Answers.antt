@@ -1,14 +1,11 @@
 -- `links::hold::stands` meets its contract: after i turns t says whether the number stands among the first i.
 use mathlib.Core.Bool.{or-true, or-false}
-use mathlib.Core.Logic.{⊎_elim}
 use lib.Seq.{take_all}
 use borrow.Author.Tests.{eq-eqb, ne_eqb}
 use Rattle.lists.specs.Lists.{any, keyed}
 use Rattle.links.specs.Gather.{itself}
 use Rattle.lists.proofs.Prefix.{any_more}
-use Prim.Native.Nat.{◌≤◌, ◌-◌}
 use mathlib.Core.Path.{◌≡◌, refl, sym, ◌∙◌}
-use lib.ListN.{take}
 use native.Mathlib.Omega.{arith}
 use borrow.Author.Rules.{rules}
 use Rattle.links.proofs.hold.stands.Goals.{else-y-x, then-y-x}

@@ -3,9 +3,7 @@ use lib.Seq.{take_all}
 use Rattle.lists.specs.Lists.{keep, keyed}
 use Rattle.links.specs.Gather.{itself}
 use Rattle.lists.proofs.Counting.{count_more}
-use Prim.Native.Nat.{◌≤◌, ◌-◌}
 use mathlib.Core.Path.{◌≡◌, refl, ◌∙◌}
-use lib.ListN.{length, take}
 use native.Mathlib.Omega.{arith}
 use borrow.Author.Rules.{rules}
 use Rattle.links.proofs.hold.times.Goals as goal

@@ -1,17 +1,12 @@
 -- `links::look::free_handle` meets its contract: each handle before h is taken. The gathered handles are all that the
 -- loop knows of the links, so the invariant speaks of any links that they were gathered from.
-use borrow.Author.Tests.{not-true, not-false}
 use Rattle.links.specs.declared.Connection.{Connection}
-use Rattle.links.specs.Links.{opened, free_handle, free_from}
+use Rattle.links.specs.Links.{free_handle, free_from}
 use Rattle.links.specs.Gather.{gathered}
-use Rattle.links.proofs.Looking.{free_here, free_next, free_end}
-use Rattle.links.proofs.Gather.{stands_has}
-use Prim.Native.Nat.{ℕ, ◌≤◌, ◌+◌, ◌-◌}
-use mathlib.Core.Path.{◌≡◌, refl, sym, ◌∙◌}
+use Prim.Native.Nat.{ℕ, ◌≤◌, ◌-◌}
+use mathlib.Core.Path.{◌≡◌}
 use mathlib.Core.List.{List}
 use lib.ListN.{take}
-use native.Mathlib.Omega.{arith}
-use borrow.Author.Rules.{rules}
 use Rattle.links.proofs.look.free_handle.Given as goal
 
 abbrev pub invariant-loop-h : goal.invariant-loop-h

@@ -1,7 +1,6 @@
 -- `links::look::terminating` meets its contract.
 use Rattle.links.proofs.Looking.{reason_none, reason_some, reason_nothing}
 use mathlib.Core.Path.{sym, ◌∙◌}
-use borrow.Author.Rules.{rules}
 use Rattle.links.proofs.look.terminating.Goals as goal
 
 pub returns-then-reason-eq0 : goal.returns-then-reason-eq0

@@ -6,7 +6,6 @@ use borrow.Author.Tests.{not-true, not-false}
 use Rattle.links.specs.Fields.{with_parameters}
 use Rattle.commands.proofs.Giving.{answered_then, gives_answer, gives_changed}
 use Rattle.notices.specs.Notices.{peer_update}
-use borrow.Author.Rules.{rules}
 use Rattle.notices.proofs.changing.peer_update.Goals as goal
 
 pub returns-then-not-has : goal.returns-then-not-has

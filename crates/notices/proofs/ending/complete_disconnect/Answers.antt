@@ -1,6 +1,5 @@
 -- `notices::ending::complete_disconnect` meets its contract.
 use Rattle.notices.specs.Notices.{complete_disconnect}
-use borrow.Author.Rules.{rules}
 use Rattle.notices.proofs.ending.complete_disconnect.Goals as goal
 
 pub returns : goal.returns

@@ -7,7 +7,6 @@ use Rattle.links.specs.Links.{ended}
 use Rattle.links.proofs.Keeping.{ended_holds}
 use Rattle.commands.proofs.Giving.{answered_then, gives_answer}
 use Rattle.notices.proofs.Giving.{gives_links}
-use borrow.Author.Rules.{rules}
 use Rattle.notices.proofs.ending.disconnected.Goals as goal
 
 pub returns-then-not-has : goal.returns-then-not-has

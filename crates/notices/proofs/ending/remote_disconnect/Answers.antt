@@ -1,6 +1,5 @@
 -- `notices::ending::remote_disconnect` meets its contract.
 use Rattle.notices.specs.Notices.{remote_disconnect}
-use borrow.Author.Rules.{rules}
 use Rattle.notices.proofs.ending.remote_disconnect.Goals as goal
 
 pub returns : goal.returns

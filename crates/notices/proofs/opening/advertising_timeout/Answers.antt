@@ -3,7 +3,6 @@ use mathlib.Core.Path.{refl}
 use Rattle.commands.proofs.Giving.{answered_then, gives_answer}
 use Rattle.notices.specs.Notices.{advertising_timeout}
 use Rattle.notices.proofs.Giving.{off_holds}
-use borrow.Author.Rules.{rules}
 use Rattle.notices.proofs.opening.advertising_timeout.Goals as goal
 
 pub returns : goal.returns

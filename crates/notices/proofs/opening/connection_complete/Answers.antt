@@ -1,7 +1,6 @@
 -- `notices::opening::connection_complete` meets its contract.
 use mathlib.Core.Path.{sym, ◌∙◌}
 use native.Mathlib.Omega.{arith}
-use borrow.Author.Rules.{rules}
 use Rattle.octets.proofs.Writing.{put_then, put_long, put_front, put_front_long}
 use Rattle.commands.specs.Following.{le_meta_event}
 use Rattle.commands.proofs.Giving.{answered_then}

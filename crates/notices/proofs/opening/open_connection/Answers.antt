@@ -5,7 +5,6 @@ use Rattle.links.proofs.Keeping.{opened_holds}
 use Rattle.commands.proofs.Giving.{answered}
 use Rattle.notices.specs.Notices.{open_connection}
 use Rattle.notices.proofs.Giving.{gives_links}
-use borrow.Author.Rules.{rules}
 use Rattle.notices.proofs.opening.open_connection.Goals as goal
 
 pub returns : goal.returns

@@ -7,7 +7,6 @@ use Rattle.links.proofs.Keeping.{settled_holds}
 use Rattle.commands.proofs.Giving.{answered_then, gives_answer}
 use Rattle.notices.specs.Notices.{completed}
 use Rattle.notices.proofs.Giving.{gives_links}
-use borrow.Author.Rules.{rules}
 use Rattle.notices.proofs.packets.completed.Goals as goal
 
 pub returns-then-count-eq0 : goal.returns-then-count-eq0

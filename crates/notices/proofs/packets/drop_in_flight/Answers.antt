@@ -5,7 +5,6 @@ use Rattle.links.proofs.Keeping.{settled_holds}
 use Rattle.commands.proofs.Giving.{answered}
 use Rattle.notices.specs.Notices.{drop_in_flight}
 use Rattle.notices.proofs.Giving.{gives_links}
-use borrow.Author.Rules.{rules}
 use Rattle.notices.proofs.packets.drop_in_flight.Goals as goal
 
 pub returns : goal.returns

@@ -4,7 +4,6 @@ use borrow.Author.Tests.{lt-ltb, le-ltb}
 use Rattle.commands.specs.Put.{put_settings}
 use Rattle.commands.specs.Privacy.{set_address_resolution}
 use Rattle.commands.proofs.Giving.{gives_part, holds_settings}
-use borrow.Author.Rules.{rules}
 use Rattle.privacy.proofs.addresses.set_address_resolution.Goals as goal
 
 pub returns-then-enable-gt1 : goal.returns-then-enable-gt1

@@ -1,10 +1,8 @@
 -- `privacy::addresses::set_address_timeout` meets its contract.
 use mathlib.Core.Path.{sym, ◌∙◌}
-use borrow.Author.Tests.{not-true, not-false}
 use Rattle.commands.specs.Put.{put_settings}
 use Rattle.commands.specs.Privacy.{set_address_timeout}
 use Rattle.commands.proofs.Giving.{gives_part, holds_settings}
-use borrow.Author.Rules.{rules}
 use Rattle.privacy.proofs.addresses.set_address_timeout.Goals as goal
 
 pub returns-then-not-within : goal.returns-then-not-within

@@ -2,7 +2,6 @@
 use mathlib.Core.Path.{sym, ◌∙◌}
 use Rattle.commands.specs.Privacy.{read_phy}
 use Rattle.commands.proofs.Giving.{answered}
-use borrow.Author.Rules.{rules}
 use Rattle.privacy.proofs.phy.read_phy.Goals as goal
 
 pub returns-in-Found : goal.returns-in-Found

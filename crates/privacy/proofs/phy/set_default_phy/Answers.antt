@@ -9,7 +9,6 @@ use Rattle.commands.specs.Outcome.{outcome, done}
 use Rattle.commands.specs.Put.{put_settings}
 use Rattle.commands.specs.Privacy.{set_default_phy}
 use Rattle.commands.proofs.Giving.{gives_part, holds_settings}
-use borrow.Author.Rules.{rules}
 use Rattle.privacy.proofs.phy.set_default_phy.Goals as goal
 
 pub returns-then-phy_preference_empty : goal.returns-then-phy_preference_empty

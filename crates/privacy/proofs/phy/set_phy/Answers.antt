@@ -5,7 +5,6 @@ use Rattle.links.specs.Fields.{with_phys}
 use Rattle.commands.specs.Privacy.{set_phy}
 use Rattle.commands.proofs.Giving.{answered_then, gives_answer, gives_changed}
 use Rattle.privacy.proofs.Picking.{lowest_bit}
-use borrow.Author.Rules.{rules}
 use Rattle.privacy.proofs.phy.set_phy.Goals as goal
 
 pub set_phys-requires : goal.set_phys-requires

@@ -1,6 +1,5 @@
 -- `privacy::preference::names_lacking` meets its contract.
 use mathlib.Core.Path.{sym}
-use borrow.Author.Rules.{rules}
 use Rattle.privacy.proofs.preference.names_lacking.Goals as goal
 
 pub returns-then-any : goal.returns-then-any

@@ -3,7 +3,6 @@ use mathlib.Core.Path.{sym, ◌∙◌}
 use borrow.Author.Tests.{lt-ltb, le-ltb}
 use Rattle.commands.specs.Privacy.{phy_preference_empty}
 use Rattle.privacy.proofs.Picking.{lowest_bit}
-use borrow.Author.Rules.{rules}
 use Rattle.privacy.proofs.preference.phy_preference_empty.Goals as goal
 
 pub returns-then-all-gt3 : goal.returns-then-all-gt3

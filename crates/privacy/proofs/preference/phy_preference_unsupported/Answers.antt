@@ -3,7 +3,6 @@ use mathlib.Core.Path.{sym, ◌∙◌}
 use borrow.Author.Tests.{eq-eqb, ne_eqb}
 use Rattle.commands.specs.Privacy.{phy_preference_unsupported}
 use Rattle.privacy.proofs.Picking.{lowest_bit}
-use borrow.Author.Rules.{rules}
 use Rattle.privacy.proofs.preference.phy_preference_unsupported.Goals as goal
 
 pub returns-then-names_lacking : goal.returns-then-names_lacking

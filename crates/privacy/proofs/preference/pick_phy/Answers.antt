@@ -1,6 +1,5 @@
 -- `privacy::preference::pick_phy` meets its contract.
 use mathlib.Core.Path.{sym}
-use borrow.Author.Rules.{rules}
 use Rattle.commands.specs.Privacy.{phy_picked}
 use Rattle.privacy.proofs.Picking.{picks_2m, picks_1m, picks_1m_by_default, picks_coded}
 use Rattle.privacy.proofs.preference.pick_phy.Goals as goal

@@ -8,7 +8,6 @@ use Rattle.commands.specs.Put.{put_resolving_list}
 use Rattle.commands.specs.Privacy.{add_to_resolving_list}
 use Rattle.commands.proofs.Giving.{gives_part, holds_resolving_list}
 use Rattle.privacy.proofs.Identity.{identity_told, identity_long, identity_absent}
-use borrow.Author.Rules.{rules}
 use Rattle.privacy.proofs.resolving.add_to_resolving_list.Goals as goal
 
 pub returns-then-locked : goal.returns-then-locked

@@ -4,7 +4,6 @@ use Rattle.state.proofs.Keeping.{resolving_empty}
 use Rattle.commands.specs.Put.{put_resolving_list}
 use Rattle.commands.specs.Privacy.{clear_resolving_list}
 use Rattle.commands.proofs.Giving.{gives_part, holds_resolving_list}
-use borrow.Author.Rules.{rules}
 use Rattle.privacy.proofs.resolving.clear_resolving_list.Goals as goal
 
 pub returns-then-locked : goal.returns-then-locked

@@ -3,7 +3,6 @@ use mathlib.Core.Path.{sym, ◌∙◌}
 use Rattle.lists.proofs.Tests.{any_first}
 use Rattle.filters.specs.Filters.{resolving_entries, has_identity}
 use Rattle.filters.proofs.Kept.{resolving_count}
-use borrow.Author.Rules.{rules}
 use Rattle.privacy.proofs.resolving.listed.Goals as goal
 
 pub returns : goal.returns

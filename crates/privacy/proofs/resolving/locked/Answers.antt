@@ -1,6 +1,5 @@
 -- `privacy::resolving::locked` meets its contract.
 use borrow.Author.Tests.{eq-eqb, ne_eqb}
-use borrow.Author.Rules.{rules}
 use Rattle.privacy.proofs.resolving.locked.Goals as goal
 
 pub returns-then-s-ne0 : goal.returns-then-s-ne0

@@ -1,12 +1,10 @@
 -- `privacy::resolving::remove_from_resolving_list` meets its contract.
 use mathlib.Core.Path.{sym, ◌∙◌}
-use borrow.Author.Tests.{not-true, not-false}
 use Rattle.state.proofs.Keeping.{resolving_removed}
 use Rattle.commands.specs.Put.{put_resolving_list}
 use Rattle.commands.specs.Privacy.{remove_from_resolving_list}
 use Rattle.commands.proofs.Giving.{gives_part, holds_resolving_list}
 use Rattle.privacy.proofs.Identity.{identity_told}
-use borrow.Author.Rules.{rules}
 use Rattle.privacy.proofs.resolving.remove_from_resolving_list.Goals as goal
 
 pub returns-then-locked : goal.returns-then-locked

@@ -1,14 +1,13 @@
 -- `privacy::resolving::set_privacy_mode` meets its contract.
 use mathlib.Core.Path.{sym, ◌∙◌}
 use native.Mathlib.Omega.{arith}
-use borrow.Author.Tests.{lt-ltb, le-ltb, not-true, not-false}
+use borrow.Author.Tests.{lt-ltb, le-ltb}
 use Rattle.octets.specs.Octets.{octet}
 use Rattle.state.proofs.Keeping.{resolving_moded}
 use Rattle.commands.specs.Put.{put_resolving_list}
 use Rattle.commands.specs.Privacy.{set_privacy_mode}
 use Rattle.commands.proofs.Giving.{gives_part, holds_resolving_list}
 use Rattle.privacy.proofs.Identity.{identity_told, identity_long}
-use borrow.Author.Rules.{rules}
 use Rattle.privacy.proofs.resolving.set_privacy_mode.Goals as goal
 
 pub returns-then-locked : goal.returns-then-locked

@@ -1,5 +1,5 @@
 -- `Advertising::with_data` meets its contract.
-use Rattle.std.proofs.Common.{◌≡◌, length, arith, rules}
+use Rattle.std.proofs.Common.{arith}
 use Rattle.octets.proofs.Writing.{put_front}
 use Rattle.state.proofs.Advertising.with_data.Goals as goal
 

@@ -1,5 +1,5 @@
 -- `state::remember` meets its contract.
-use Rattle.std.proofs.Common.{◌≡◌, length, arith, rules}
+use Rattle.std.proofs.Common.{rules}
 use Rattle.state.proofs.Remembering.{one_more}
 use Rattle.state.proofs.history.remember.Goals as goal
 

@@ -1,5 +1,5 @@
 -- `resolving_holds` meets its contract.
-use Rattle.std.proofs.Common.{rules, le-leb}
+use Rattle.std.proofs.Common.{le-leb}
 use borrow.Author.Tests.{lt-leb}
 use Rattle.state.specs.Holding.{resolving_holds}
 use Rattle.state.proofs.hold.resolving_holds.Goals as goal

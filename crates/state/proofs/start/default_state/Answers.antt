@@ -1,5 +1,5 @@
 -- `state::default_state` meets its contract.
-use Rattle.std.proofs.Common.{◌∙◌, arith, rules}
+use Rattle.std.proofs.Common.{◌∙◌, arith}
 use Rattle.state.proofs.start.default_state.Goals as goal
 
 pub returns : goal.returns

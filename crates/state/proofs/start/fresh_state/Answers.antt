@@ -2,7 +2,6 @@
 use Rattle.links.proofs.Keeping.{empty_holds}
 use Rattle.state.proofs.Keeping.{accept_empty, resolving_empty}
 use Rattle.state.proofs.Fresh.{settings_fresh, links_fresh}
-use Rattle.std.proofs.Common.{rules}
 use Rattle.state.proofs.start.fresh_state.Goals as goal
 
 pub returns : goal.returns

@@ -1,7 +1,6 @@
 -- `idle` meets its contract.
 use mathlib.Core.Path.{sym, ◌∙◌}
 use borrow.Author.Tests.{eq-eqb, ne_eqb}
-use borrow.Author.Rules.{rules}
 use Rattle.commands.specs.Test.{idle}
 use Rattle.test_and_power.proofs.direct_test.idle.Goals as goal
 

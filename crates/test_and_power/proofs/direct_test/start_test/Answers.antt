@@ -4,14 +4,12 @@ use Prim.Native.Nat.{ℕ, ◌≤◌, ◌<◌}
 use mathlib.Core.List.{List}
 use mathlib.Core.Path.{◌≡◌, sym, ◌∙◌}
 use native.Mathlib.Omega.{arith}
-use borrow.Author.Rules.{rules}
 use borrow.Author.Tests.{lt-ltb, le-ltb, not-true, not-false}
 use Rattle.state.specs.declared.Controller.{Controller}
 use Rattle.state.specs.State.{view}
 use Rattle.commands.specs.Put.{put_settings}
 use Rattle.commands.specs.Test.{idle, start_test}
 use mathlib.Core.Bool.{Bool, true, false, not, cond}
-use mathlib.Core.Logic.{⊎_elim}
 use Rattle.commands.proofs.Giving.{gives_part, holds_settings}
 use Rattle.test_and_power.proofs.direct_test.start_test.Goals.{else-transmit, then-transmit}
 use Rattle.test_and_power.proofs.direct_test.start_test.Goals as goal

@@ -1,6 +1,5 @@
 -- `test_end` meets its contract.
 use native.Mathlib.Omega.{arith}
-use borrow.Author.Rules.{rules}
 use borrow.Author.Tests.{eq-eqb, ne_eqb}
 use Rattle.commands.specs.Test.{test_end}
 use Rattle.commands.proofs.Giving.{gives_answer, holds_settings}

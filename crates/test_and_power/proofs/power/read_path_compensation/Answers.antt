@@ -1,6 +1,5 @@
 -- `read_path_compensation` meets its contract.
 use mathlib.Core.Path.{refl}
-use borrow.Author.Rules.{rules}
 use Rattle.commands.specs.Test.{read_path_compensation}
 use Rattle.commands.proofs.Giving.{answered}
 use Rattle.test_and_power.proofs.power.read_path_compensation.Goals as goal

@@ -1,8 +1,6 @@
 -- `write_path_compensation` meets its contract.
 use mathlib.Core.Path.{◌≡◌, sym, ◌∙◌}
 use mathlib.Core.Bool.{true, false}
-use borrow.Author.Rules.{rules}
-use borrow.Author.Tests.{not-true, not-false}
 use Rattle.octets.specs.Octets.{word}
 use Rattle.signed.specs.Signed.{compensation_allowed}
 use Rattle.commands.specs.Put.{put_settings}

@@ -1,6 +1,5 @@
 -- `read_advertising_sets` meets its contract.
 use mathlib.Core.Path.{refl}
-use borrow.Author.Rules.{rules}
 use Rattle.commands.specs.Test.{read_advertising_sets}
 use Rattle.commands.proofs.Giving.{answered}
 use Rattle.test_and_power.proofs.reports.read_advertising_sets.Goals as goal

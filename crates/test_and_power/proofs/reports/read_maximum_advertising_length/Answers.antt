@@ -1,6 +1,5 @@
 -- `read_maximum_advertising_length` meets its contract.
 use mathlib.Core.Path.{refl}
-use borrow.Author.Rules.{rules}
 use Rattle.commands.specs.Test.{read_maximum_advertising_length}
 use Rattle.commands.proofs.Giving.{answered}
 use Rattle.test_and_power.proofs.reports.read_maximum_advertising_length.Goals as goal

@@ -1,11 +1,11 @@
 -- `filters::accept::AcceptList::remove` meets its contract: taking out one entry that is the same changes nothing of
 -- what the definition keeps.
-use Prim.Native.Nat.{◌≤◌, ◌-◌}
+use Prim.Native.Nat.{◌-◌}
 use native.Mathlib.Omega.{arith}
 use mathlib.Core.Path.{◌≡◌, refl, sym, ap, ◌∙◌}
 use lib.ListN.{length}
 use borrow.Author.Rules.{rules}
-use Rattle.lists.specs.Lists.{chunks, first_at, same_list}
+use Rattle.lists.specs.Lists.{chunks}
 use Rattle.lists.proofs.Chunks.{length_chunks}
 use Rattle.filters.specs.Filters.{removed}
 use Rattle.filters.proofs.Kept.{removed_cut, removed_absent}

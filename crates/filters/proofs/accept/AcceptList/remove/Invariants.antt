@@ -1,15 +1,10 @@
 -- `filters::accept::AcceptList::remove` meets its contract: taking out one entry that is the same changes nothing of
 -- what the definition keeps.
-use Prim.Native.Nat.{◌≤◌, ◌-◌}
-use native.Mathlib.Omega.{arith}
-use mathlib.Core.Path.{◌≡◌, refl, sym, ap, ◌∙◌}
+use Prim.Native.Nat.{◌≤◌}
+use mathlib.Core.Path.{◌≡◌}
 use lib.ListN.{length}
-use borrow.Author.Rules.{rules}
 use Rattle.lists.specs.Lists.{chunks, first_at, same_list}
-use Rattle.lists.proofs.Chunks.{length_chunks}
 use Rattle.filters.specs.Filters.{removed}
-use Rattle.filters.proofs.Kept.{removed_cut, removed_absent}
-use Rattle.filters.proofs.Identities.{first_entry}
 use Rattle.filters.proofs.accept.AcceptList.remove.Given as goal
 
 abbrev pub invariant-loop-place : goal.invariant-loop-place
