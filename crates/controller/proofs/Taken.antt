@@ -15,7 +15,7 @@ use Rattle.links.specs.Links as links
 use Rattle.links.specs.declared.Links.{Links}
 use Rattle.transmit.specs.Transmit.{PoolFits, with_taken, Takes, taken_octets, room_for}
 use Rattle.transmit.specs.declared.Taken.{Taken}
-use Rattle.state.specs.State.{Model, view}
+use Rattle.state.specs.State.{view}
 use Rattle.state.specs.Holding.{state_holds, place_size}
 use Rattle.state.specs.declared.Controller.{Controller}
 use Rattle.state.proofs.Holding.{state_told}

@@ -1,7 +1,5 @@
 -- `receive::command_task` meets its contract.
 use Rattle.receive.proofs.Tasking.{answered_task, carried_task}
-use borrow.Author.Rules.{rules}
-use Rattle.receive.proofs.command_task.Lts as lts
 use Rattle.receive.proofs.command_task.Goals as goal
 
 pub returns-in-Answered : goal.returns-in-Answered

@@ -5,7 +5,7 @@ use mathlib.Core.Path.{◌≡◌, sym, ◌∙◌}
 use mathlib.Core.List.{[]}
 use lib.ListN.{length}
 use native.Mathlib.Omega.{arith}
-use borrow.Author.Tests.{not-true, not-false}
+use borrow.Author.Tests.{not-false}
 use Rattle.lists.proofs.Copying.{length_of_map}
 use Rattle.hci.proofs.Readers.{acl_tells}
 use Rattle.calls.specs.Packets.{flags_served}

@@ -2,7 +2,6 @@
 use mathlib.Core.Path.{ap}
 use Rattle.state.specs.declared.Counters.{Counters}
 use Rattle.receive.specs.declared.Delivered.{Delivered}
-use borrow.Author.Rules.{rules}
 use Rattle.receive.proofs.dropped.Goals as goal
 
 pub returns : goal.returns

@@ -1,6 +1,5 @@
 -- `receive::has_link` meets its contract.
 use mathlib.Core.Path.{sym, ◌∙◌}
-use borrow.Author.Rules.{rules}
 use Rattle.receive.proofs.has_link.Goals as goal
 
 pub returns-then-flags_served : goal.returns-then-flags_served

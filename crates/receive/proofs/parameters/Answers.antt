@@ -3,8 +3,6 @@ use mathlib.Core.Path.{sym, ◌∙◌}
 use native.Mathlib.Omega.{arith}
 use Rattle.hci.proofs.Readers.{command_tells}
 use Rattle.receive.proofs.Tasking.{parameters_read, parameters_none}
-use borrow.Author.Rules.{rules}
-use Rattle.receive.proofs.parameters.Lts as lts
 use Rattle.receive.proofs.parameters.Goals as goal
 
 pub slice_bounds-result-end : goal.slice_bounds-result-end

@@ -2,8 +2,6 @@
 use mathlib.Core.Path.{sym, ◌∙◌}
 use mathlib.Core.Logic.{inl}
 use Rattle.receive.proofs.Tasking.{quiet_empty, short_header, not_command, short_parameters, whole}
-use borrow.Author.Rules.{rules}
-use Rattle.receive.proofs.task_of.Lts as lts
 use Rattle.receive.proofs.task_of.Goals as goal
 
 pub returns-then-packet-eq0 : goal.returns-then-packet-eq0

@@ -1,7 +1,5 @@
 -- `command::course_of` meets its contract.
 use Rattle.command.proofs.Coursing.{unknown_row}
-use borrow.Author.Rules.{rules}
-use Rattle.command.proofs.course.course_of.Lts as lts
 use Rattle.command.proofs.course.course_of.Goals as goal
 
 pub returns-in-Unknown : goal.returns-in-Unknown

@@ -6,8 +6,6 @@ use borrow.Author.Tests.{not-true, not-false}
 use Rattle.state.proofs.Holding.{passed, failed}
 use Rattle.dispatch.proofs.Choosing.{part_of}
 use Rattle.command.proofs.Coursing.{sized_at, family_told, other_family_lem, unmodeled, bad_parameters, carried_out, within_table}
-use borrow.Author.Rules.{rules}
-use Rattle.command.proofs.course.listed_row.Lts as lts
 use Rattle.command.proofs.course.listed_row.Goals as goal
 
 pub returns-then-other_family : goal.returns-then-other_family

@@ -1,6 +1,5 @@
 -- `command::rowless` meets its contract.
 use Rattle.command.proofs.Coursing.{vendor, no_row_lem}
-use Rattle.command.proofs.course.rowless.Lts as lts
 use Rattle.command.proofs.course.rowless.Goals as goal
 
 pub returns-then-op-eq-OGF_VENDOR : goal.returns-then-op-eq-OGF_VENDOR

@@ -1,5 +1,4 @@
 -- `command::acknowledged` meets its contract.
-use borrow.Author.Rules.{rules}
 use Rattle.command.proofs.family.acknowledged.Goals as goal
 
 pub returns-then-by_status : goal.returns-then-by_status

@@ -2,7 +2,6 @@
 use mathlib.Core.Path.{sym, ◌∙◌}
 use borrow.Author.Tests.{eq-eqb, ne_eqb}
 use Rattle.commands.specs.Command.{family_of}
-use borrow.Author.Rules.{rules}
 use Rattle.command.proofs.family.family_of.Goals as goal
 
 pub returns-then-within : goal.returns-then-within

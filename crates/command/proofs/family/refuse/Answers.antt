@@ -1,6 +1,5 @@
 -- `command::refuse` meets its contract.
 use mathlib.Core.Path.{sym}
-use borrow.Author.Rules.{rules}
 use Rattle.commands.specs.Command.{refused}
 use Rattle.command.proofs.family.refuse.Goals as goal
 

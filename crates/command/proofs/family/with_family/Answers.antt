@@ -2,8 +2,6 @@
 use mathlib.Core.Path.{sym, ◌∙◌}
 use borrow.Author.Tests.{eq-eqb, ne_eqb}
 use Rattle.commands.specs.Command.{family_of}
-use borrow.Author.Rules.{rules}
-use Rattle.command.proofs.family.with_family.Lts as lts
 use Rattle.command.proofs.family.with_family.Goals as goal
 
 pub returns-then-family-eq0 : goal.returns-then-family-eq0

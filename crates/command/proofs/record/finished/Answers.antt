@@ -5,7 +5,6 @@ use lib.ListN.{length, length-take}
 use Rattle.answers.specs.Answers.{answer_of}
 use Rattle.command.proofs.Giving.{finishes_from}
 use borrow.Author.Rules.{rules}
-use Rattle.command.proofs.record.finished.Lts as lts
 use Rattle.command.proofs.record.finished.Goals as goal
 
 pub remembered-more-requires : goal.remembered-more-requires

@@ -6,8 +6,6 @@ use Rattle.answers.specs.Answers.{answer_of}
 use Rattle.state.specs.State.{answers_of}
 use Rattle.state.proofs.Keeping.{recent_remembered}
 use Rattle.command.proofs.Recording.{status_remembered}
-use borrow.Author.Rules.{rules}
-use Rattle.command.proofs.record.remembered.Lts as lts
 use Rattle.command.proofs.record.remembered.Goals as goal
 
 pub returns-in-Silent : goal.returns-in-Silent

@@ -3,7 +3,6 @@ use mathlib.Core.Path.{sym}
 use Prim.Native.Nat.{◌<◌}
 use native.Mathlib.Omega.{arith}
 use lib.Seq.{get_or-take}
-use borrow.Author.Rules.{rules}
 use Rattle.command.proofs.record.status_of.Goals as goal
 
 pub returns : goal.returns

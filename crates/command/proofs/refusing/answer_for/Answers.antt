@@ -1,6 +1,4 @@
 -- `command::answer_for` meets its contract.
-use borrow.Author.Rules.{rules}
-use Rattle.command.proofs.refusing.answer_for.Lts as lts
 use Rattle.command.proofs.refusing.answer_for.Goals as goal
 
 pub returns-in-UnknownRow : goal.returns-in-UnknownRow

@@ -2,8 +2,6 @@
 use mathlib.Core.Path.{refl}
 use Rattle.command.proofs.Giving.{gave}
 use Rattle.command.proofs.Reasons.{answer_modest, reason_outcome, reason_holds}
-use borrow.Author.Rules.{rules}
-use Rattle.command.proofs.refusing.answered.Lts as lts
 use Rattle.command.proofs.refusing.answered.Goals as goal
 
 pub finished-requires : goal.finished-requires

@@ -1,8 +1,6 @@
 -- `command::counters_for` meets its contract.
 use mathlib.Core.Path.{ap, ◌∙◌}
 use Rattle.state.specs.State.{count_unknown}
-use borrow.Author.Rules.{rules}
-use Rattle.command.proofs.refusing.counters_for.Lts as lts
 use Rattle.command.proofs.refusing.counters_for.Goals as goal
 
 pub returns-in-UnknownRow : goal.returns-in-UnknownRow

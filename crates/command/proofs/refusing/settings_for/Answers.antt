@@ -1,6 +1,4 @@
 -- `command::settings_for` meets its contract.
-use borrow.Author.Rules.{rules}
-use Rattle.command.proofs.refusing.settings_for.Lts as lts
 use Rattle.command.proofs.refusing.settings_for.Goals as goal
 
 pub returns-in-Unmodeled : goal.returns-in-Unmodeled

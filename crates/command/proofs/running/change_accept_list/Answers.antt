@@ -2,8 +2,6 @@
 use mathlib.Core.Path.{refl}
 use Rattle.commands.specs.Put.{put_accept_list}
 use Rattle.command.proofs.Giving.{can_dispatch, can_finish, carried, no_address}
-use borrow.Author.Rules.{rules}
-use Rattle.command.proofs.running.change_accept_list.Lts as lts
 use Rattle.command.proofs.running.change_accept_list.Goals as goal
 
 pub accept_list-r-requires : goal.accept_list-r-requires

@@ -2,8 +2,6 @@
 use mathlib.Core.Path.{refl}
 use Rattle.commands.specs.Put.{put_links}
 use Rattle.command.proofs.Giving.{can_dispatch, can_finish, carried, no_address}
-use borrow.Author.Rules.{rules}
-use Rattle.command.proofs.running.change_links.Lts as lts
 use Rattle.command.proofs.running.change_links.Goals as goal
 
 pub links-r-requires : goal.links-r-requires

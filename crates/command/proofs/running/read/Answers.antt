@@ -3,7 +3,6 @@ use mathlib.Core.Path.{◌≡◌, refl}
 use lib.ListN.{length}
 use Rattle.command.proofs.Giving.{can_dispatch, can_finish, carried, no_part}
 use borrow.Author.Rules.{rules}
-use Rattle.command.proofs.running.read.Lts as lts
 use Rattle.command.proofs.running.read.Goals as goal
 
 pub read-answer-requires : goal.read-answer-requires

@@ -2,8 +2,6 @@
 use mathlib.Core.Path.{refl}
 use Rattle.state.specs.declared.Controller.{Controller}
 use Rattle.command.proofs.Giving.{can_dispatch, can_finish, carried, no_address}
-use borrow.Author.Rules.{rules}
-use Rattle.command.proofs.running.reset.Lts as lts
 use Rattle.command.proofs.running.reset.Goals as goal
 
 pub finished-noted-requires : goal.finished-noted-requires

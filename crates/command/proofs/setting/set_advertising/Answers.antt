@@ -2,8 +2,6 @@
 use mathlib.Core.Path.{refl}
 use Rattle.commands.specs.Put.{put_advertising}
 use Rattle.command.proofs.Giving.{can_dispatch, can_finish, carried, no_address}
-use borrow.Author.Rules.{rules}
-use Rattle.command.proofs.setting.set_advertising.Lts as lts
 use Rattle.command.proofs.setting.set_advertising.Goals as goal
 
 pub advertising-r-requires : goal.advertising-r-requires

@@ -2,8 +2,6 @@
 use mathlib.Core.Path.{refl}
 use Rattle.commands.specs.Put.{put_masks}
 use Rattle.command.proofs.Giving.{can_dispatch, can_finish, carried, sets_masks, no_address}
-use borrow.Author.Rules.{rules}
-use Rattle.command.proofs.setting.set_masks.Lts as lts
 use Rattle.command.proofs.setting.set_masks.Goals as goal
 
 pub masks-masks-requires : goal.masks-masks-requires

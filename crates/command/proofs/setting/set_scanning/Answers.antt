@@ -2,8 +2,6 @@
 use mathlib.Core.Path.{refl}
 use Rattle.commands.specs.Put.{put_scanning}
 use Rattle.command.proofs.Giving.{can_dispatch, can_finish, carried, no_address}
-use borrow.Author.Rules.{rules}
-use Rattle.command.proofs.setting.set_scanning.Lts as lts
 use Rattle.command.proofs.setting.set_scanning.Goals as goal
 
 pub scanning-r-requires : goal.scanning-r-requires

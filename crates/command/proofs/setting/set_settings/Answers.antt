@@ -2,8 +2,6 @@
 use mathlib.Core.Path.{refl}
 use Rattle.commands.specs.Put.{put_settings}
 use Rattle.command.proofs.Giving.{can_dispatch, can_finish, carried, no_address}
-use borrow.Author.Rules.{rules}
-use Rattle.command.proofs.setting.set_settings.Lts as lts
 use Rattle.command.proofs.setting.set_settings.Goals as goal
 
 pub settings-r-requires : goal.settings-r-requires

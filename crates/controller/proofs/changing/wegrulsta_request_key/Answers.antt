@@ -1,6 +1,5 @@
 -- `controller::changing::wegrulsta_request_key` meets its contract.
 use mathlib.Core.Path.{refl, sym, ◌∙◌}
-use borrow.Author.Rules.{rules}
 use Rattle.notices.proofs.Telling.{request_ltk_alone}
 use Rattle.controller.proofs.Asking.{events_asked}
 use Rattle.controller.proofs.Answering.{gives_refused, can_tell_alone, gives_told}

@@ -1,6 +1,5 @@
 -- `controller::changing::wegrulsta_update` meets its contract.
 use mathlib.Core.Path.{refl, sym, ◌∙◌}
-use borrow.Author.Rules.{rules}
 use Rattle.notices.proofs.Telling.{peer_update_tells}
 use Rattle.controller.proofs.Asking.{events_asked}
 use Rattle.controller.proofs.Answering.{gives_refused, can_tell, gives_told}

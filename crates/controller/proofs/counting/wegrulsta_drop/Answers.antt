@@ -1,6 +1,5 @@
 -- `controller::counting::wegrulsta_drop` meets its contract.
 use mathlib.Core.Path.{refl, sym, ◌∙◌}
-use borrow.Author.Rules.{rules}
 use Rattle.notices.proofs.Telling.{drop_in_flight_silent}
 use Rattle.controller.proofs.Asking.{state_asked}
 use Rattle.controller.proofs.Answering.{gives_refused, gives_silent}

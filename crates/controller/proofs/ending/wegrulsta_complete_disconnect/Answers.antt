@@ -1,6 +1,5 @@
 -- `controller::ending::wegrulsta_complete_disconnect` meets its contract.
 use mathlib.Core.Path.{refl, sym, ◌∙◌}
-use borrow.Author.Rules.{rules}
 use Rattle.notices.proofs.Telling.{complete_disconnect_tells}
 use Rattle.controller.proofs.Asking.{events_asked}
 use Rattle.controller.proofs.Answering.{gives_refused, can_tell, gives_told}

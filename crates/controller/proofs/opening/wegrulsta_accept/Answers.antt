@@ -5,7 +5,6 @@ use mathlib.Core.Path.{refl}
 use native.Mathlib.Omega.{arith}
 use mathlib.Core.Bool.{cond}
 use mathlib.Core.List.{[], ◌∷◌}
-use borrow.Author.Rules.{rules}
 use Rattle.links.specs.Links.{opened, can_open}
 use Rattle.state.proofs.Holding.{passed, failed}
 use Rattle.notices.proofs.Telling.{accept_connection_alone}

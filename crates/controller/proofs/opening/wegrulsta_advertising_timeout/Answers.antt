@@ -1,6 +1,5 @@
 -- `controller::opening::wegrulsta_advertising_timeout` meets its contract.
 use mathlib.Core.Path.{refl, sym, ◌∙◌}
-use borrow.Author.Rules.{rules}
 use Rattle.notices.proofs.Telling.{advertising_timeout_tells}
 use Rattle.controller.proofs.Asking.{events_asked}
 use Rattle.controller.proofs.Answering.{gives_refused, can_tell, gives_told}

@@ -4,7 +4,6 @@ use mathlib.Core.Bool.{not}
 use mathlib.Core.Path.{refl}
 use native.Mathlib.Omega.{arith}
 use mathlib.Core.List.{[], ◌∷◌}
-use borrow.Author.Rules.{rules}
 use Rattle.links.specs.Links.{opened, can_open}
 use Rattle.state.proofs.Holding.{passed, failed}
 use Rattle.notices.proofs.Telling.{open_connection_silent}

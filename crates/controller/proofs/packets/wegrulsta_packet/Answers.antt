@@ -1,7 +1,6 @@
 -- `packets::wegrulsta_packet` meets its contract: what the function gives that the packet's task calls for, or the number of a refusal.
 use Rattle.controller.proofs.Received.{can_receive, receives_not, gives_nothing, gives_data, gives_answered, gives_carried, can_carry, is_nothing, is_data, is_answered, is_carried}
 use borrow.Author.Rules.{rules}
-use Rattle.controller.proofs.packets.wegrulsta_packet.Lts as lts
 use Rattle.controller.proofs.packets.wegrulsta_packet.Goals as goal
 
 pub returns-then-number-ne0 : goal.returns-then-number-ne0

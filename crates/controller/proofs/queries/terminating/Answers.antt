@@ -1,5 +1,4 @@
 -- `queries::terminating` meets its contract: the reason of a Disconnect that waits.
-use borrow.Author.Rules.{rules}
 use Rattle.controller.proofs.Asking.{state_asked}
 use Rattle.controller.proofs.Finding.{finds_none, finds}
 use Rattle.controller.proofs.queries.terminating.Goals as goal

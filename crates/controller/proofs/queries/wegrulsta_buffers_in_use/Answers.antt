@@ -1,5 +1,4 @@
 -- `queries::wegrulsta_buffers_in_use` meets its contract: how many buffers are in use.
-use borrow.Author.Rules.{rules}
 use Rattle.controller.proofs.Asking.{state_asked}
 use Rattle.controller.proofs.Finding.{finds_none, finds}
 use Rattle.controller.proofs.queries.wegrulsta_buffers_in_use.Goals as goal

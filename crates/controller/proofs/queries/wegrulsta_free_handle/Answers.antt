@@ -1,5 +1,4 @@
 -- `queries::wegrulsta_free_handle` meets its contract: the lowest handle that no link has.
-use borrow.Author.Rules.{rules}
 use Rattle.controller.proofs.Asking.{state_asked}
 use Rattle.controller.proofs.Finding.{finds_none, finds}
 use Rattle.controller.proofs.queries.wegrulsta_free_handle.Goals as goal

@@ -1,5 +1,4 @@
 -- `queries::wegrulsta_has_connection` meets its contract: whether a link has the handle.
-use borrow.Author.Rules.{rules}
 use Rattle.controller.proofs.Asking.{state_asked}
 use Rattle.controller.proofs.Finding.{finds_none, finds}
 use Rattle.controller.proofs.queries.wegrulsta_has_connection.Goals as goal

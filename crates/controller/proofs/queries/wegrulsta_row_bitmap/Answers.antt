@@ -1,7 +1,6 @@
 -- `queries::wegrulsta_row_bitmap` meets its contract: the bit map of rows that fit, and zeros where they do not.
 use mathlib.Core.Path.{ap}
 use mathlib.Core.Bool.{not}
-use borrow.Author.Rules.{rules}
 use Rattle.controller.proofs.Finding.{finds_no_bitmap, finds_bitmap}
 use Rattle.controller.proofs.queries.wegrulsta_row_bitmap.Goals as goal
 

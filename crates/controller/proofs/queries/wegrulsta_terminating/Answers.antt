@@ -1,5 +1,4 @@
 -- `controller::queries::wegrulsta_terminating` meets its contract.
-use borrow.Author.Rules.{rules}
 use Rattle.controller.specs.Answers.{reason_octet}
 use Rattle.controller.proofs.Finding.{finds_told}
 use Rattle.controller.proofs.queries.wegrulsta_terminating.Goals as goal

@@ -1,7 +1,6 @@
 -- `controller::questions::about_events` meets its contract.
 use mathlib.Core.List.{[], ◌∷◌}
 use lib.Dec.{leb}
-use borrow.Author.Rules.{rules}
 use borrow.Author.Tests.{le-leb, lt-leb}
 use Rattle.calls.specs.Calls.{first_no}
 use Rattle.controller.specs.Asked.{question}

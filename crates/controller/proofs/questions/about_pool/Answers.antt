@@ -4,7 +4,6 @@ use mathlib.Core.Bool.{not}
 use mathlib.Core.List.{[], ◌∷◌}
 use Prim.Native.Nat.{◌*◌}
 use lib.Dec.{leb}
-use borrow.Author.Rules.{rules}
 use Rattle.state.specs.Holding.{place_size}
 use Rattle.state.proofs.Holding.{passed, failed}
 use Rattle.calls.specs.Calls.{first_no}

@@ -1,7 +1,6 @@
 -- `controller::questions::about_state` meets its contract.
 use mathlib.Core.Path.{ap}
 use mathlib.Core.Bool.{not}
-use borrow.Author.Rules.{rules}
 use borrow.Author.Tests.{not-true, not-false}
 use Rattle.state.proofs.Holding.{passed, failed}
 use Rattle.calls.specs.Calls.{first_no}

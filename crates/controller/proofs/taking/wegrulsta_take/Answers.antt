@@ -1,7 +1,4 @@
 -- `taking::wegrulsta_take` meets its contract: the packets that `transmit::take` takes, or the number of a refusal.
-use mathlib.Core.Path.{ap}
-use mathlib.Core.Bool.{not}
-use borrow.Author.Rules.{rules}
 use Rattle.controller.proofs.Taken.{take_fits, take_not, take_no_room, take_gives}
 use Rattle.controller.proofs.taking.wegrulsta_take.Goals as goal
 
