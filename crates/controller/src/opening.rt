@@ -95,11 +95,7 @@ pub fn wegrulsta_accept(
 }
 
 // High duty cycle directed advertising ended unanswered.
-pub fn wegrulsta_advertising_timeout(
-    profile: ControllerRow,
-    s: Controller,
-    out: &mut [u8],
-) -> Told
+pub fn wegrulsta_advertising_timeout(profile: ControllerRow, s: Controller, out: &mut [u8]) -> Told
     ensures { Tells profile (call.advertising_timeout) s out.old result out.new }
 {
     let held = state::holds(s, profile);

@@ -54,11 +54,7 @@ pub struct Bitmap {
 }
 
 // Whether a link has this handle.
-pub fn wegrulsta_has_connection(
-    profile: ControllerRow,
-    s: Controller,
-    handle: u16,
-) -> Connected
+pub fn wegrulsta_has_connection(profile: ControllerRow, s: Controller, handle: u16) -> Connected
     ensures { Finds profile s (λ m. links.has handle m.links.connections) false result.number result.connected }
 {
     let held = state::holds(s, profile);
@@ -94,11 +90,7 @@ pub fn terminating(profile: ControllerRow, s: Controller, handle: u16) -> Discon
 }
 
 // The same for C, which has no enums that hold a value.
-pub fn wegrulsta_terminating(
-    profile: ControllerRow,
-    s: Controller,
-    handle: u16,
-) -> ReasonTold
+pub fn wegrulsta_terminating(profile: ControllerRow, s: Controller, handle: u16) -> ReasonTold
     ensures { Finds profile s (terminating_reason handle) 0 result.number result.reason }
 {
     let r = terminating(profile, s, handle);

@@ -5,4 +5,3 @@
 mod notices;
 mod packets;
 mod queries;
-

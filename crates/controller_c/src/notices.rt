@@ -38,7 +38,9 @@ pub extern "C" fn wegrulsta_accept(
     ensures { Tells profile (call.accept_connection handle (is_random peer_type) peer.now interval latency timeout sca)
         s out.old result out.new }
 {
-    controller::accept_connection(profile, s, handle, peer_type, peer, interval, latency, timeout, sca, out)
+    controller::accept_connection(
+        profile, s, handle, peer_type, peer, interval, latency, timeout, sca, out,
+    )
 }
 
 // High duty cycle directed advertising ended unanswered.

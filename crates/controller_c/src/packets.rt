@@ -28,7 +28,9 @@ pub extern "C" fn wegrulsta_packet(
         (held s pool.old) (held result.state pool.new)
         (told result out.old out.new) }
 {
-    controller::on_packet(profile, opcodes, answers, bits, s, pool, address, random, packet, out)
+    controller::on_packet(
+        profile, opcodes, answers, bits, s, pool, address, random, packet, out,
+    )
 }
 
 // Takes up to max packets of a link, oldest first, end to end to the front of out. Question 7: does out hold them all?

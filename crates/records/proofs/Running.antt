@@ -18,7 +18,7 @@ use Rattle.state.specs.State.{Model, default_model}
 use Rattle.state.specs.declared.Controller.{Controller}
 use Rattle.calls.specs.Calls.{Call, Held, held, model_of}
 use Rattle.calls.specs.Gives.{Starts}
-use Rattle.records.specs.Lines.{Line, calls, no_record, before, record_of}
+use Rattle.records.specs.Lines.{Line, calls, no_record, record_of}
 use Rattle.records.specs.Bench.{bench, printed, is_newline, lines_of, at_line, answers, header, run_octets, Running, is_record, Steps}
 
 -- ---- the lines of some octets

@@ -13,6 +13,9 @@ use links::Links;
 use profile::ControllerRow;
 use state::Controller;
 
+// The last channel: a test is on one of 0 to 39.
+const LAST_CHANNEL: u8 = 0x27;
+
 // Whether a test may start: none runs, the link layer is not busy, and there is no link.
 fn idle(s: Controller) -> bool
     requires { s.links.count ≤ 16 }
@@ -64,7 +67,7 @@ fn start_test(
     if !idle(s) {
         return commands::settings_answered(s.settings, 0x0C);
     }
-    if channel > 0x27 {
+    if channel > LAST_CHANNEL {
         return commands::settings_answered(s.settings, 0x12);
     }
     if !test_phy(profile, transmit, phy) {

@@ -1,12 +1,11 @@
 -- `records::bench::line_len` meets its contract: what it has passed is no newline.
 use mathlib.Core.Path.{◌≡◌, ◌∙◌}
-use Prim.Native.Nat.{◌≤◌, ◌-◌}
 use native.Mathlib.Omega.{arith}
-use lib.ListN.{length, take}
+use lib.ListN.{length}
 use lib.Seq.{take-length}
 use borrow.Author.Tests.{eq-eqb, ne_eqb}
 use borrow.Author.Rules.{rules}
-use Rattle.lists.proofs.Search.{Searching, first_here, first_skip, first_end}
+use Rattle.lists.proofs.Search.{first_here, first_skip, first_end}
 use Rattle.records.specs.Bench.{is_newline}
 use Rattle.records.proofs.bench.line_len.Goals as goal
 
@@ -20,9 +19,11 @@ returns-then-rest-i-eq10 c =
 pub loop-i-preserved : goal.loop-i-preserved
 loop-i-preserved c =
     let l = c.loop-i in
-    let line = c.args.rest.now in
-    (search rules, first_skip line (length line) is_newline l.i 0 l.invariant.1 (ne_eqb _ _ c.if-rest-i-eq10.false)
-    (omega arith) (omega arith))
+    let line = c.args.rest.now in (
+      search rules,
+      first_skip line (length line) is_newline l.i 0 l.invariant.1 (ne_eqb _ _ c.if-rest-i-eq10.false)
+          (omega arith) (omega arith),
+    )
 
 pub returns : goal.returns
 returns c =

@@ -1,12 +1,7 @@
 -- `records::bench::line_len` meets its contract: what it has passed is no newline.
-use mathlib.Core.Path.{◌≡◌, ◌∙◌}
 use Prim.Native.Nat.{◌≤◌, ◌-◌}
-use native.Mathlib.Omega.{arith}
 use lib.ListN.{length, take}
-use lib.Seq.{take-length}
-use borrow.Author.Tests.{eq-eqb, ne_eqb}
-use borrow.Author.Rules.{rules}
-use Rattle.lists.proofs.Search.{Searching, first_here, first_skip, first_end}
+use Rattle.lists.proofs.Search.{Searching}
 use Rattle.records.specs.Bench.{is_newline}
 use Rattle.records.proofs.bench.line_len.Given as goal
 

@@ -1,14 +1,11 @@
 -- `records::bench::make` meets its contract.
-use mathlib.Core.Path.{refl, sym, ap}
+use mathlib.Core.Path.{ap}
 use mathlib.Core.List.{List}
 use Prim.Native.Nat.{ℕ}
-use native.Mathlib.Omega.{arith}
 use lib.ListN.{replicate}
-use lib.Seq.{length-take-le}
-use borrow.Author.Rules.{rules}
 use Rattle.calls.specs.Calls.{on_packet}
 use Rattle.records.specs.Lines.{calls}
-use Rattle.records.proofs.Making.{prints_for, stands_for_none, take_there}
+use Rattle.records.proofs.Making.{prints_for, take_there}
 use Rattle.records.proofs.bench.make.Goals as goal
 
 pub returns-in-Packet : goal.returns-in-Packet

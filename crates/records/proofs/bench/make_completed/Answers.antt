@@ -1,7 +1,6 @@
 -- `records::bench::make_completed` meets its contract.
 use mathlib.Core.Path.{refl, sym}
 use native.Mathlib.Omega.{arith}
-use borrow.Author.Rules.{rules}
 use Rattle.records.proofs.Benching.{zeros, runs_with, runs_zeros, any_rows, number_small, still_together, written_within, written_fits, written_long, call_prints}
 use Rattle.records.proofs.bench.make_completed.Goals as goal
 
@@ -19,9 +18,10 @@ pub print_answer-next-requires : goal.print_answer-next-requires
 print_answer-next-requires c =
     let pre = c.requires in
     let runs = runs_zeros pre.0 in
-    let gives = any_rows c.bench_profile-profile.ensures (c.wegrulsta_completed-r.ensures zeros) in
-    (omega (arith, written_long runs gives, written_within runs gives),
-    (number_small runs gives refl, ((still_together runs gives).links, pre.1)))
+    let gives = any_rows c.bench_profile-profile.ensures (c.wegrulsta_completed-r.ensures zeros) in (
+      omega (arith, written_long runs gives, written_within runs gives),
+      (number_small runs gives refl, ((still_together runs gives).links, pre.1)),
+    )
 
 pub returns : goal.returns
 returns c = λ pool room.

@@ -1,7 +1,6 @@
 -- `records::bench::make_open` meets its contract.
 use mathlib.Core.Path.{refl}
 use native.Mathlib.Omega.{arith}
-use borrow.Author.Rules.{rules}
 use Rattle.records.proofs.Benching.{zeros, runs_with, runs_zeros, any_rows, number_small, still_together, call_prints, no_packets}
 use Rattle.records.proofs.bench.make_open.Goals as goal
 

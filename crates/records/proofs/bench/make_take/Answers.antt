@@ -1,7 +1,6 @@
 -- `records::bench::make_take` meets its contract.
 use mathlib.Core.Path.{refl, sym}
 use native.Mathlib.Omega.{arith}
-use borrow.Author.Rules.{rules}
 use Rattle.records.proofs.Benching.{any_rows, number_small, still_together, written_within, written_fits, written_long, call_prints}
 use Rattle.records.proofs.bench.make_take.Goals as goal
 
@@ -18,9 +17,10 @@ slice_bounds-print_answer-end c =
 pub print_answer-next-requires : goal.print_answer-next-requires
 print_answer-next-requires c =
     let pre = c.requires in
-    let gives = any_rows c.bench_profile-profile.ensures c.wegrulsta_take-r.ensures in
-    (omega (arith, written_long pre.0 gives, written_within pre.0 gives),
-    (number_small pre.0 gives refl, ((still_together pre.0 gives).links, pre.1)))
+    let gives = any_rows c.bench_profile-profile.ensures c.wegrulsta_take-r.ensures in (
+      omega (arith, written_long pre.0 gives, written_within pre.0 gives),
+      (number_small pre.0 gives refl, ((still_together pre.0 gives).links, pre.1)),
+    )
 
 pub returns : goal.returns
 returns c =

@@ -1,7 +1,6 @@
 -- `records::bench::print_done` meets its contract.
 use mathlib.Core.List.{[]}
 use native.Mathlib.Omega.{arith}
-use borrow.Author.Rules.{rules}
 use Rattle.records.proofs.Benching.{used_few}
 use Rattle.records.proofs.bench.print_done.Goals as goal
 

@@ -1,6 +1,5 @@
 -- `records::bench::run` meets its contract.
 use native.Mathlib.Omega.{arith}
-use borrow.Author.Rules.{rules}
 use Rattle.octets.proofs.Writing.{put_long}
 use Rattle.bench_profile.specs.Bench.{bench_controller}
 use Rattle.records.proofs.Running.{runs_not, runs}

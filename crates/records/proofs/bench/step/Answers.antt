@@ -1,6 +1,5 @@
 -- `records::bench::step` meets its contract.
 use native.Mathlib.Omega.{arith}
-use borrow.Author.Rules.{rules}
 use Rattle.records.proofs.Making.{too_long, read_none, steps_none, steps_record}
 use Rattle.records.proofs.bench.step.Goals as goal
 

@@ -1,5 +1,4 @@
 -- `done_line` meets its contract.
-use borrow.Author.Rules.{rules}
 use Rattle.records.proofs.Printing.{put_done}
 use Rattle.records.proofs.print.done_line.Goals as goal
 

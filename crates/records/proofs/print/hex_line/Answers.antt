@@ -1,6 +1,5 @@
 -- `hex_line` meets its contract.
 use native.Mathlib.Omega.{arith}
-use borrow.Author.Rules.{rules}
 use Rattle.records.proofs.Printing.{put_line, newline_fits}
 use Rattle.records.proofs.print.hex_line.Goals as goal
 

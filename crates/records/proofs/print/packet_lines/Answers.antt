@@ -1,9 +1,6 @@
 -- `packet_lines` meets its contract: when the loop has come to an index, the lines of the packets before it are written.
-use Prim.Native.Nat.{◌-◌}
 use native.Mathlib.Omega.{arith}
-use lib.ListN.{length}
-use borrow.Author.Rules.{rules}
-use Rattle.records.proofs.PacketLines.{Lines, lines_begin, lines_next, lines_fit, lines_turn, lines_none, lines_all}
+use Rattle.records.proofs.PacketLines.{lines_begin, lines_next, lines_fit, lines_turn, lines_none, lines_all}
 use Rattle.records.proofs.print.packet_lines.Goals as goal
 
 pub loop-i-init : goal.loop-i-init

@@ -1,9 +1,6 @@
 -- `put_hex` meets its contract: after j turns the first j octets are written.
-use Prim.Native.Nat.{◌-◌}
 use native.Mathlib.Omega.{arith}
-use lib.ListN.{length}
-use borrow.Author.Rules.{rules}
-use Rattle.records.proofs.Printing.{Hex, hex_begin, hex_turn, hex_end}
+use Rattle.records.proofs.Printing.{hex_begin, hex_turn}
 use Rattle.records.proofs.print.put_hex.Goals as goal
 
 pub loop-j-init : goal.loop-j-init

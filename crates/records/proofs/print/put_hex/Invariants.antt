@@ -1,9 +1,7 @@
 -- `put_hex` meets its contract: after j turns the first j octets are written.
 use Prim.Native.Nat.{◌-◌}
-use native.Mathlib.Omega.{arith}
 use lib.ListN.{length}
-use borrow.Author.Rules.{rules}
-use Rattle.records.proofs.Printing.{Hex, hex_begin, hex_turn, hex_end}
+use Rattle.records.proofs.Printing.{Hex}
 use Rattle.records.proofs.print.put_hex.Given as goal
 
 abbrev pub invariant-loop-j : goal.invariant-loop-j

@@ -1,7 +1,5 @@
 -- `whole_len` meets its contract.
 use mathlib.Core.Path.{sym, ◌∙◌}
-use native.Mathlib.Omega.{arith}
-use borrow.Author.Rules.{rules}
 use Rattle.h4.proofs.Reading.{whole_packet, whole_short, whole_other}
 use Rattle.records.proofs.print.whole_len.Goals as goal
 

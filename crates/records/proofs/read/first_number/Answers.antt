@@ -1,8 +1,6 @@
 -- `records::read::first_number` meets its contract.
 use mathlib.Core.Path.{sym, ◌∙◌}
 use native.Mathlib.Omega.{arith}
-use lib.Seq.{length-take-le}
-use borrow.Author.Rules.{rules}
 use Rattle.records.proofs.Numbers.{first_tabless, first_no_lem, first_yes}
 use Rattle.records.proofs.read.first_number.Goals as goal
 

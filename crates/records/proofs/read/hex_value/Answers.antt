@@ -1,6 +1,5 @@
 -- `records::read::hex_value` meets its contract.
 use native.Mathlib.Omega.{arith}
-use borrow.Author.Rules.{rules}
 use Rattle.records.proofs.Hex.{digit_below, digit_decimal, digit_between, digit_letter, digit_above}
 use Rattle.records.proofs.read.hex_value.Goals as goal
 

@@ -23,10 +23,10 @@ returns-then-letter-eq79 c =
 
 pub returns-in_default : goal.returns-in_default
 returns-in_default c = (
-      line_pair _ _ (omega arith) (omega arith) refl _ (ne_eqb _ _ c.if-letter-eq80.false) (ne_eqb _ _ c.if-letter-eq79.false)
-          (sym c.in_default.is ∙ c.read_pair.ensures),
-      refl,
-    )
+  line_pair _ _ (omega arith) (omega arith) refl _ (ne_eqb _ _ c.if-letter-eq80.false) (ne_eqb _ _ c.if-letter-eq79.false)
+      (sym c.in_default.is ∙ c.read_pair.ensures),
+  refl,
+)
 
 pub returns-then-letter-eq84 : goal.returns-then-letter-eq84
 returns-then-letter-eq84 c =
@@ -38,7 +38,7 @@ returns-then-letter-eq67 c =
 
 pub returns : goal.returns
 returns c = (
-      line_other _ _ (omega arith) (omega arith) refl _ _ (ne_eqb _ _ c.if-letter-eq80.false) (ne_eqb _ _ c.if-letter-eq79.false)
-          (ne_eqb _ _ c.if-letter-eq84.false) (ne_eqb _ _ c.if-letter-eq67.false) (sym c.in-Two.is ∙ c.read_pair.ensures),
-      refl,
-    )
+  line_other _ _ (omega arith) (omega arith) refl _ _ (ne_eqb _ _ c.if-letter-eq80.false) (ne_eqb _ _ c.if-letter-eq79.false)
+      (ne_eqb _ _ c.if-letter-eq84.false) (ne_eqb _ _ c.if-letter-eq67.false) (sym c.in-Two.is ∙ c.read_pair.ensures),
+  refl,
+)

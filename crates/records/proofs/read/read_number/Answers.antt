@@ -1,9 +1,6 @@
 -- `records::read::read_number` meets its contract: after i turns the first i characters are digits, and n is what they say.
-use Prim.Native.Nat.{◌-◌}
 use native.Mathlib.Omega.{arith}
-use lib.ListN.{length}
-use borrow.Author.Rules.{rules}
-use Rattle.records.proofs.Numbers.{Counting, counting_none, counting_next, counting_below, counting_above, counting_past, counting_all, counting_empty}
+use Rattle.records.proofs.Numbers.{counting_next, counting_below, counting_above, counting_past, counting_all, counting_empty}
 use Rattle.records.proofs.read.read_number.Goals as goal
 
 pub returns-then-field-eq0 : goal.returns-then-field-eq0

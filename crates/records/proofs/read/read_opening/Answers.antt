@@ -1,6 +1,5 @@
 -- `records::read::read_opening` meets its contract.
 use mathlib.Core.Path.{sym, ◌∙◌}
-use borrow.Author.Rules.{rules}
 use Rattle.records.proofs.Numbers.{head_yes, opening_none, opening_one, opening_two}
 use Rattle.records.proofs.read.read_opening.Goals as goal
 

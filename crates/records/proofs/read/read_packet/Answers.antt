@@ -1,9 +1,8 @@
 -- `records::read::read_packet` meets its contract: after j turns the octets of the first j pairs stand in the buffer.
 use mathlib.Core.Path.{refl}
-use Prim.Native.Nat.{◌-◌, ◌≤◌}
 use native.Mathlib.Omega.{arith}
 use borrow.Author.Rules.{rules}
-use Rattle.records.proofs.Hex.{Pairs, pairs_none, pairs_next, pairs_high, pairs_low, packet_odd, packet_long, packet_digit, packet_read}
+use Rattle.records.proofs.Hex.{pairs_next, pairs_high, pairs_low, packet_odd, packet_long, packet_digit, packet_read}
 use Rattle.records.proofs.read.read_packet.Goals as goal
 
 pub returns-then-rest-n : goal.returns-then-rest-n
@@ -24,9 +23,11 @@ returns-then-low-ge16 c =
 
 pub loop-j-preserved : goal.loop-j-preserved
 loop-j-preserved c =
-    let l = c.loop-j.invariant.1 in
-    (omega arith, pairs_next l (omega arith) _ _ c.hex_value-high.ensures c.hex_value-low.ensures
-    (omega arith) (omega arith) (omega arith))
+    let l = c.loop-j.invariant.1 in (
+      omega arith,
+      pairs_next l (omega arith) _ _ c.hex_value-high.ensures c.hex_value-low.ensures
+          (omega arith) (omega arith) (omega arith),
+    )
 
 pub returns : goal.returns
 returns c =

@@ -1,6 +1,5 @@
 -- `records::read::read_pair` meets its contract.
 use mathlib.Core.Path.{sym, ◌∙◌}
-use borrow.Author.Rules.{rules}
 use Rattle.records.proofs.Numbers.{head_yes, pair_none, pair_one, pair_both}
 use Rattle.records.proofs.read.read_pair.Goals as goal
 

@@ -25,19 +25,19 @@ returns-then-not-idle c =
     gives_part put_settings c.settings_answered.ensures (λ size pool. rw (sym (c.idle.ensures size pool) ∙ c.if-not-idle.true))
     c.requires.holds
 
-pub returns-then-channel-gt39 : goal.returns-then-channel-gt39
+pub returns-then-channel-gt-LAST_CHANNEL : goal.returns-then-channel-gt-LAST_CHANNEL
 unfolding start_test
-returns-then-channel-gt39 c =
+returns-then-channel-gt-LAST_CHANNEL c =
     let idles = is_idle c.args.s c.idle.ensures (ap not c.if-not-idle.false) in
-    let above : 0x27 < c.args.channel = omega (arith, c.if-channel-gt39.true) in
-    gives_part put_settings c.settings_answered-then-channel-gt39.ensures (λ size pool. rw (idles size pool, lt-ltb _ _ above))
+    let above : 0x27 < c.args.channel = omega (arith, c.if-channel-gt-LAST_CHANNEL.true) in
+    gives_part put_settings c.settings_answered-then-channel-gt-LAST_CHANNEL.ensures (λ size pool. rw (idles size pool, lt-ltb _ _ above))
     c.requires.holds
 
 pub returns-then-not-test_phy : goal.returns-then-not-test_phy
 unfolding start_test
 returns-then-not-test_phy c =
     let idles = is_idle c.args.s c.idle.ensures (ap not c.if-not-idle.false) in
-    let within : c.args.channel ≤ 0x27 = omega (arith, c.if-channel-gt39.false) in
+    let within : c.args.channel ≤ 0x27 = omega (arith, c.if-channel-gt-LAST_CHANNEL.false) in
     let without = sym c.test_phy.ensures ∙ c.if-not-test_phy.true in
     gives_part put_settings c.settings_answered-then-not-test_phy.ensures (λ size pool. rw (idles size pool, le-ltb _ _ within, without))
     c.requires.holds
@@ -46,7 +46,7 @@ pub returns-then-not-allowed : goal.returns-then-not-allowed
 unfolding start_test
 returns-then-not-allowed c =
     let idles = is_idle c.args.s c.idle.ensures (ap not c.if-not-idle.false) in
-    let within : c.args.channel ≤ 0x27 = omega (arith, c.if-channel-gt39.false) in
+    let within : c.args.channel ≤ 0x27 = omega (arith, c.if-channel-gt-LAST_CHANNEL.false) in
     let has = sym c.test_phy.ensures ∙ c.if-not-test_phy.false in
     let refused = not-true c.args.allowed (ap not c.if-not-allowed.true) in
     gives_part put_settings c.settings_answered-then-not-allowed.ensures (λ size pool. rw (idles size pool, le-ltb _ _ within, has, refused))
@@ -57,7 +57,7 @@ unfolding start_test
 returns c =
     let test = c.if-transmit.settings in
     let idles = is_idle c.args.s c.idle.ensures (ap not c.if-not-idle.false) in
-    let within : c.args.channel ≤ 0x27 = omega (arith, c.if-channel-gt39.false) in
+    let within : c.args.channel ≤ 0x27 = omega (arith, c.if-channel-gt-LAST_CHANNEL.false) in
     let has = sym c.test_phy.ensures ∙ c.if-not-test_phy.false in
     let allows = not-false c.args.allowed (ap not c.if-not-allowed.false) in
     let stored : test ≡ cond c.args.transmit 2 1 =
