@@ -1,4 +1,4 @@
--- The proof of demand 3, each file over those before it; `demand-3` is in Agreement.
+-- The proof of demand 3, each file over those before it; `demand_3` is in Agreement.
 pub mod Splitting
 pub mod Rules
 pub mod Links

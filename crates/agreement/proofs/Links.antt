@@ -19,7 +19,7 @@ use Rattle.credits.specs.Credits as credits
 use Rattle.credits.specs.Steps as steps
 use Rattle.agreement.specs.Agreement.{owner_of}
 
--- what `buffersOf` reads of a state, of its links alone
+-- what `buffers_of` reads of a state, of its links alone
 abbrev pub buffers_in : Model → credits.Buffers
 buffers_in m = record { handles = map handle_of m.connections; waiting = map owner_of m.queue; in_flight = m.in_flight }
 

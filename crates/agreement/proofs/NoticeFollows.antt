@@ -88,7 +88,7 @@ moved : (m : Model) {b c : Buffers} → b ≡ c → steps.at b (seen m) ≡ step
 moved m e = ap (λ (b : Buffers). steps.at b (seen m)) e
 
 module _ (g : Profile) (m : Model) where
-  -- open_connection, acceptConnection: the handle is present, or a place is free
+  -- open_connection, accept_connection: the handle is present, or a place is free
   open_rule : (h interval latency timeout : ℕ) → Word h → can_open h m.links.connections ≡ true
       → Rule g (book.Call.opening h) true m (open_connection h interval latency timeout m)
   unfolding open_connection
@@ -107,7 +107,7 @@ module _ (g : Profile) (m : Model) where
       (moved m (opened_follows (new_connection h interval latency timeout) m.links))
       (heard true o (quiet o (accept_connection_tells h kind peer interval latency timeout accuracy m six)))
 
-  -- peer_update, request_ltk, advertisingTimeout: no handle changes, and no event is one that the book reads
+  -- peer_update, request_ltk, advertising_timeout: no handle changes, and no event is one that the book reads
   quiet_rule : (o : Outcome) → seen o.state ≡ seen m → Tells 0x3E o → Rule g book.Call.other false m o
   quiet_rule o same w = steps.Step.pass refl same (heard false o (quiet o w))
 
@@ -130,7 +130,7 @@ module _ (g : Profile) (m : Model) where
   unfolding advertising_timeout
   timeout_rule = quiet_rule (advertising_timeout m) refl (advertising_timeout_tells m)
 
-  -- completed, dropInFlight: none leaves the number in flight
+  -- completed, drop_in_flight: none leaves the number in flight
   complete_rule : (h n : ℕ) → Word h → Word n → Rule g (book.Call.completed h n) false m (completed h n m)
   unfolding completed
   complete_rule h n w v =
@@ -151,7 +151,7 @@ module _ (g : Profile) (m : Model) where
   discard_rule n =
       steps.Step.discard n refl (moved m (settled_follows n m.links)) (heard false (drop_in_flight n m) fed_nothing)
 
-  -- remote_disconnect, completeDisconnect: an unknown handle ends nothing
+  -- remote_disconnect, complete_disconnect: an unknown handle ends nothing
   end_rule : (h reason : ℕ) → Word h → Rule g book.Call.other false m (disconnected h reason m)
   end_rule h reason w =
       let enabled = enabled_by m.masks.event 4 in

@@ -1,5 +1,5 @@
 -- Demand 3 for the controller's calls: what the host's book is fed of a call, and the claim, `Demand3`, for every list of calls.
--- `demand-3` in proofs/Agreement.antt proves it. For the insurer's engineer; docs/PROOF.md says it in words. Comments in quotation
+-- `demand_3` in proofs/Agreement.antt proves it. For the insurer's engineer; docs/PROOF.md says it in words. Comments in quotation
 -- marks are sentences of documents 00 and 01. The book, the premises and `CreditsHold` are in `Rattle.credits.specs.Credits`, what a
 -- call gives in `Rattle.calls.specs.Gives`.
 use Rattle.std.specs.Prelude.{◌≡◌, ℕ, zero, suc, ◌+◌, ◌≤◌, ◌<◌, Bool, true, false, cond, ◌&&◌, eqb, ltb, take, length}
@@ -70,7 +70,7 @@ call_fed g advertising_timeout = book.Call.other
 
 -- ---- the answer
 
--- whether an accepted call opens a link by the definitions of the notices: `openConnection` and `acceptConnection` always do
+-- whether an accepted call opens a link by the definitions of the notices: `open_connection` and `accept_connection` always do
 abbrev pub opens_link : Call → Bool
 opens_link (on_packet address random p) = false
 opens_link (take_transmit h most) = false

@@ -1,4 +1,4 @@
--- Document 01's table of marked cases, one proposition about the definitions: `MarkedCases`, proved as `marked-cases` in
+-- Document 01's table of marked cases, one proposition about the definitions: `MarkedCases`, proved as `marked_cases` in
 -- proofs/Marked.antt. The cases about one command are `Rattle.commands.specs.Cases`; the two about whole packets stand here.
 use Rattle.std.specs.Prelude.{◌≡◌, ℕ, List, [], ◌∷◌}
 use Rattle.links.specs.Links.{in_use}

@@ -15,7 +15,7 @@ use Rattle.calls.specs.Gives.{Answer, plain, events, packets, profile_of}
 use Rattle.credits.specs.Credits.{Made}
 use Rattle.bench_profile.specs.Bench.{bench_controller}
 
--- ---- the profile: `benchController` in `bench_profile/specs/Bench.antt`, with the rows of the three commands of the run
+-- ---- the profile: `bench_controller` in `bench_profile/specs/Bench.antt`, with the rows of the three commands of the run
 
 -- Disconnect, Set Event Mask and Reset, modelled: bit 5 of octet 0 of the supported commands, bits 6 and 7 of octet 5
 abbrev pub bench_profile : Profile

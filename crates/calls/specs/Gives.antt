@@ -116,7 +116,7 @@ pub record FindsBitmap (opcodes answers bits : List ℕ) (number : ℕ) (map : L
   pub accepted : number ≡ 0 → map ≡ row_bitmap answers bits
 
 -- A state as a controller starts with it. What no definition decides of it are the elements of the arrays that have a count, as
--- each count is 0: nothing is asked of them, and no call shows them (`starts-alike` in proofs/Unseen.antt).
+-- each count is 0: nothing is asked of them, and no call shows them (`starts_alike` in proofs/Unseen.antt).
 pub record Starts (s : Controller) : Type 0 where
   pub viewed : (size : ℕ) (pool : List ℕ) → view s size pool ≡ default_model
   pub together : (k : ControllerRow) → StateHolds s k

@@ -1,6 +1,6 @@
 -- What no definition decides is never shown. The contract leaves open which places of the pool packets lie in, what unused
 -- places hold and what arrays hold past their counts; two states that differ in nothing else answer every call alike, and differ
--- in nothing else after it. `unseen` and `starts-alike` in proofs/Unseen.antt prove it. For readers who ask what the contract
+-- in nothing else after it. `unseen` and `starts_alike` in proofs/Unseen.antt prove it. For readers who ask what the contract
 -- leaves open.
 use Rattle.std.specs.Prelude.{◌≡◌, List, ℕ, length}
 use Rattle.state.specs.Holding.{state_holds}

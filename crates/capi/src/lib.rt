@@ -1,6 +1,6 @@
 // Calls for C, Rust and whoever else links an archive, of what stands beside the controller: the readers and writers of `hci`, the
 // stream of `h4`, and AES. Each hands its arguments on to the Rattle function of the same work and promises the same. The calls that
-// take a state are exported by `controller`. For firmware; `embed/wegrulsta.h` declares them. Contracts cite those of `hci`, `h4`
+// take a state are exported by `controller_c`. For firmware; `embed/wegrulsta.h` declares them. Contracts cite those of `hci`, `h4`
 // and `aes`, and `specs/` where an answer has another form.
 #![tactic(auto)]
 

@@ -32,7 +32,7 @@ use Rattle.command.specs.declared.course.Course.TheVariants.{Answered, Carried}
 
 -- ---- parts of the state
 
--- the test of `otherFamily`, of the command's family and the state's
+-- the test of `other_family`, of the command's family and the state's
 abbrev pub differs : ℕ → ℕ → Bool
 differs family now = not (eqb family 0) && (not (eqb now 0) && not (eqb now family))
 

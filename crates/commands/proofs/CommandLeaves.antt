@@ -44,7 +44,7 @@ refused_modest : (op code : ℕ) → Modest (refused op code)
 unfolding refused
 refused_modest op code = search (modest_cond, one_status, one_done)
 
--- ---- the cases of `byRow`: an answer beside the links and the event mask that were there, or a modelled command
+-- ---- the cases of `by_row`: an answer beside the links and the event mask that were there, or a modelled command
 module _ (P : Outcome → Type 0) (g : Given) (answer op : ℕ) (m : Model)
     (left : (a : AnswerModel) (n : Model) → Modest a → Kept m n → P (outcome a n))
     (run : (answer ≡ 1 → ⊥) → (answer ≡ 2 → ⊥) → (answer ≡ 3 → ⊥) → P (modelled g op (with_family op m))) where
@@ -113,7 +113,7 @@ acknowledged_short : (num op : ℕ) (a : AnswerModel) → Modest a → length (o
 acknowledged_short num op a h = acknowledged a.form num op a.octets a.then h.short h.told
 
 module _ (g : Given) (shaped : Shaped g) (answer op : ℕ) where
-  -- answers are at most 3: `row-answer-most`
+  -- answers are at most 3: `row_answer_most`
   module _ (most : answer ≤ 3) (other : IsReset g answer op → ⊥) where
     row_leaves : (m : Model) → Leaves (sets_event_mask g answer op) m (by_row g answer op m)
     row_leaves m =

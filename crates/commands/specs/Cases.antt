@@ -1,4 +1,4 @@
--- Document 01's marked cases about commands, as one proposition: `MarkedCases`. It is proved as `marked-cases` in
+-- Document 01's marked cases about commands, as one proposition: `MarkedCases`. It is proved as `marked_cases` in
 -- `proofs/Marked.antt`. g is what a command is given, of which each case names the parameter octets; its row is modelled (0).
 use Rattle.std.specs.Prelude.{◌≡◌, ℕ, ◌+◌, ◌*◌, List, [], ◌∷◌, true, false, length}
 use Rattle.hci.specs.Read.{parse_command}

@@ -1,11 +1,12 @@
 // The calls of a unit, for Rattle, where they have the source's names, and for `controller_c`, which exports them to firmware by
-// the names that they have here (`embed/wegrulsta.h` declares them). Each takes any state, profile, pool and buffer and comes back with its answer or
-// with the number of the first question that has the answer "no" (docs/REFUSALS.md), and then nothing has changed. The caller
-// keeps the state, hands it in by value and gets it back; events and taken packets are octets at the front of a buffer that the
-// caller lends. Contracts cite `calls/specs/Gives.antt`.
+// the names that they have here (`embed/wegrulsta.h` declares them). Each takes any state, profile, pool and buffer and comes
+// back with its answer or with the number of the first question that has the answer "no" (docs/REFUSALS.md), and then nothing
+// has changed. The caller keeps the state, hands it in by value and gets it back; events and taken packets are octets at the
+// front of a buffer that the caller lends. Contracts cite `calls/specs/Gives.antt`.
 //
-// A function carries its call out itself: were it to hand on to another, the state would be copied once more. A
-// notice puts the new state together before it writes its event, for the same reason (docs/SPEED.md).
+// A function carries its call out itself, and hands it on to no other here, since each handing on may copy the state once more;
+// `controller_c` does it once. A notice puts the new state together before it writes its event, for the same reason
+// (docs/SPEED.md).
 #![tactic(auto)]
 
 mod changing;

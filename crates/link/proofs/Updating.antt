@@ -20,7 +20,7 @@ use Rattle.commands.specs.Link.{update_valid, update_event, updated}
 use Rattle.link.specs.Link.{Applied}
 use Rattle.commands.proofs.Giving.{answered_then, gives_answer, gives_changed}
 
--- `connectionUpdate` and `parameterRequestReply` with these answers
+-- `connection_update` and `parameter_request_reply` with these answers
 abbrev pub update_with : AnswerModel → AnswerModel → AnswerModel → List ℕ → Model → Outcome
 update_with invalid unknown applied p m =
     cond (not (update_valid p)) (outcome invalid m)

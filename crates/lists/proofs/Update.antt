@@ -1,4 +1,4 @@
--- The first element that passes, changed in place: `updateFirst`, for a search and a store, and what it keeps.
+-- The first element that passes, changed in place: `update_first`, for a search and a store, and what it keeps.
 use Prim.Native.Nat.{ℕ, suc, ◌<◌, ◌≤◌}
 use native.Mathlib.Nat.{le_of_suc-le-suc}
 use native.Mathlib.Omega.{arith}

@@ -17,7 +17,7 @@ within_limits k =
     && (leb k.accept_list_size 32
     && leb k.resolving_list_size 16))))
 
--- the same as facts: `within-limits` and `limits-within` of proofs/Limits
+-- the same as facts: `within_limits_lem` and `limits_within` of proofs/Limits
 pub record Limits (k : ControllerRow) : Type 0 where
   pub least_len : 27 ≤ k.acl_len
   pub most_len : k.acl_len ≤ 1019
@@ -38,7 +38,7 @@ rows_fit opcodes answers bits =
     && (leb (length opcodes) 256
     && all (λ a. leb a 2) answers))
 
--- the same as facts: `rows_fit` of proofs/Limits
+-- the same as facts: `rows_fit_lem` of proofs/Limits
 pub record Rows (opcodes answers bits : List ℕ) : Type 0 where
   pub same_answers : length opcodes ≡ length answers
   pub same_bits : length opcodes ≡ length bits
@@ -70,7 +70,7 @@ row_bits map (answer ∷ answers) (bit ∷ bits) = row_bits (with_row map answer
 abbrev pub row_bitmap : List ℕ → List ℕ → List ℕ
 row_bitmap answers bits = row_bits (replicate 64 0) answers bits
 
--- some row that is not unknown has the bit number b: what bit b of the map says, `bitmap-bit` of proofs/Bitmap
+-- some row that is not unknown has the bit number b: what bit b of the map says, `bitmap_bit` of proofs/Bitmap
 unfoldable pub lists_bit : ℕ → List ℕ → List ℕ → Bool
 lists_bit b [] bits = false
 lists_bit b (answer ∷ answers) [] = false

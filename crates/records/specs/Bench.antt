@@ -14,7 +14,7 @@ use Rattle.calls.specs.Calls.{Call, on_packet, take_transmit, open_connection, c
 use Rattle.bench_profile.specs.Bench.{bench_controller}
 use Rattle.records.specs.Lines.{Line, calls, no_record, before, record_of, hex_line, done_line}
 
--- ---- the profile: `benchController` in `bench_profile/specs/Bench.antt`, with its rows
+-- ---- the profile: `bench_controller` in `bench_profile/specs/Bench.antt`, with its rows
 
 -- rows: each opcode that `param_len` names, modelled; 0x2036 unmodelled; 0x0C05 unknown; no bit numbers
 abbrev pub bench : Profile

@@ -1,5 +1,5 @@
 -- Question 3: does the state hold together? Document 01's conditions, each as a test that computes, and the same as facts
--- that proofs use; `state-told` and `state-tested` in `proofs/Holding.antt` go from one to the other. For the controller's calls.
+-- that proofs use; `state_told` and `state_tested` in `proofs/Holding.antt` go from one to the other. For the controller's calls.
 use Rattle.std.specs.Prelude.{◌≡◌, ℕ, ◌+◌, ◌≤◌, Bool, true, ◌&&◌, nat_le}
 use Rattle.profile.specs.declared.ControllerRow.{ControllerRow}
 use Rattle.filters.specs.declared.accept.AcceptList.{AcceptList}

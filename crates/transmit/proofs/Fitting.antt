@@ -1,4 +1,4 @@
--- Waiting packets that fit the pool: what `fitsIn` says of one, and what it says of all of them.
+-- Waiting packets that fit the pool: what `fits_in` says of one, and what it says of all of them.
 use Prim.Native.Nat.{ℕ, ◌+◌, ◌*◌, ◌≤◌, ◌<◌}
 use native.Mathlib.Nat.{suc-mul, mul-le-mul_right}
 use native.Mathlib.Omega.{arith}
