@@ -2,6 +2,6 @@
 // promises the same. For firmware; `embed/wegrulsta.h` declares them. Contracts cite those of `controller`.
 #![tactic(auto)]
 
-mod notices;
+mod link_notices;
 mod packets;
 mod queries;
