@@ -1,5 +1,5 @@
 /* The bay radio's LE controller for C and C++, one call at a time: what the archives libcontroller.a (the calls that take a
- * state) and libcapi.a (HCI packets, the stream, AES) have; crates/controller_c and crates/capi say what each call gives. For
+ * state) and libcapi.a (HCI packets, the stream, AES) have; crates/controller_c and crates/capi_c say what each call gives. For
  * firmware; README.md beside this file shows the calls in the order in which a unit makes them.
  *
  * You keep a wegrulsta_state. A call takes it by value and gives the new one back in its answer, beside a number: 0, or

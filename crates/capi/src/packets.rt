@@ -77,21 +77,14 @@ fn written(answer: Written) -> Wrote
 }
 
 // An event.
-#[unsafe(no_mangle)]
-pub extern "C" fn wegrulsta_write_event(code: u8, params: &[u8], out: &mut [u8]) -> Wrote
+pub fn wegrulsta_write_event(code: u8, params: &[u8], out: &mut [u8]) -> Wrote
     ensures { WritesEvent code params.now out.old result out.new }
 {
     written(hci::event(code, params, out))
 }
 
 // An ACL data packet: the handle's low 12 bits, the boundary flag above them, broadcast flag 0.
-#[unsafe(no_mangle)]
-pub extern "C" fn wegrulsta_write_acl(
-    handle: u16,
-    boundary: u8,
-    load: &[u8],
-    out: &mut [u8],
-) -> Wrote
+pub fn wegrulsta_write_acl(handle: u16, boundary: u8, load: &[u8], out: &mut [u8]) -> Wrote
     ensures { Writes (length load.now) 65535 (packet.acl handle boundary load.now)
         out.old result out.new }
 {
@@ -99,8 +92,7 @@ pub extern "C" fn wegrulsta_write_acl(
 }
 
 // Command Complete.
-#[unsafe(no_mangle)]
-pub extern "C" fn wegrulsta_write_command_complete(
+pub fn wegrulsta_write_command_complete(
     num: u8,
     op: u16,
     return_params: &[u8],
@@ -112,25 +104,14 @@ pub extern "C" fn wegrulsta_write_command_complete(
 }
 
 // Command Status.
-#[unsafe(no_mangle)]
-pub extern "C" fn wegrulsta_write_command_status(
-    num: u8,
-    status: u8,
-    op: u16,
-    out: &mut [u8],
-) -> Wrote
+pub fn wegrulsta_write_command_status(num: u8, status: u8, op: u16, out: &mut [u8]) -> Wrote
     ensures { WritesEvent 0x0F (packet.status_params num status op) out.old result out.new }
 {
     written(hci::command_status(num, status, op, out))
 }
 
 // Number Of Completed Packets, of pairs of a handle and a count; where one slice is longer, what it has more is no pair.
-#[unsafe(no_mangle)]
-pub extern "C" fn wegrulsta_write_completed_packets(
-    handles: &[u16],
-    counts: &[u16],
-    out: &mut [u8],
-) -> Wrote
+pub fn wegrulsta_write_completed_packets(handles: &[u16], counts: &[u16], out: &mut [u8]) -> Wrote
     ensures { Writes (min (length handles.now) (length counts.now)) 63
         (packet.event 0x13 (packet.completed_params handles.now counts.now))
         out.old result out.new }
@@ -139,8 +120,7 @@ pub extern "C" fn wegrulsta_write_completed_packets(
 }
 
 // An LE Meta event.
-#[unsafe(no_mangle)]
-pub extern "C" fn wegrulsta_write_le_meta(subevent: u8, params: &[u8], out: &mut [u8]) -> Wrote
+pub fn wegrulsta_write_le_meta(subevent: u8, params: &[u8], out: &mut [u8]) -> Wrote
     ensures { WritesEvent 0x3E (packet.meta_params subevent params.now) out.old result out.new }
 {
     written(hci::le_meta(subevent, params, out))
@@ -175,8 +155,7 @@ fn command_of(answer: CommandRead) -> ReadCommand
 }
 
 // Reads a packet as a command; octets past its length are ignored.
-#[unsafe(no_mangle)]
-pub extern "C" fn wegrulsta_read_command(packet: &[u8]) -> ReadCommand
+pub fn wegrulsta_read_command(packet: &[u8]) -> ReadCommand
     ensures { result ≡ command_of (parse_command packet.now) }
 {
     command_of(Command::parse(packet))
@@ -219,8 +198,7 @@ fn data_of(answer: AclRead, boundary: u8, broadcast: u8) -> ReadAcl
 }
 
 // Reads a packet as ACL data; octets past its length are ignored.
-#[unsafe(no_mangle)]
-pub extern "C" fn wegrulsta_read_acl(packet: &[u8]) -> ReadAcl
+pub fn wegrulsta_read_acl(packet: &[u8]) -> ReadAcl
     ensures { result ≡ acl_of (acl_parts packet.now) }
 {
     let parts = hci::acl_parts(packet);
@@ -229,16 +207,14 @@ pub extern "C" fn wegrulsta_read_acl(packet: &[u8]) -> ReadAcl
 }
 
 // The opcode of a group and a command in it.
-#[unsafe(no_mangle)]
-pub extern "C" fn wegrulsta_opcode(ogf: u16, ocf: u16) -> u16
+pub fn wegrulsta_opcode(ogf: u16, ocf: u16) -> u16
     ensures { result ≡ opcode_of ogf ocf }
 {
     hci::opcode(ogf, ocf)
 }
 
 // Whether Command Status acknowledges a command.
-#[unsafe(no_mangle)]
-pub extern "C" fn wegrulsta_is_async(op: u16) -> bool
+pub fn wegrulsta_is_async(op: u16) -> bool
     ensures { result ≡ is_async op }
 {
     hci::is_async(op)
@@ -265,16 +241,14 @@ fn said(answer: Has) -> MaskHas
 }
 
 // Whether a mask has a bit.
-#[unsafe(no_mangle)]
-pub extern "C" fn wegrulsta_mask_has(mask: u64, bit: u32) -> MaskHas
+pub fn wegrulsta_mask_has(mask: u64, bit: u32) -> MaskHas
     ensures { HasBit mask bit result }
 {
     said(hci::mask_has(mask, bit))
 }
 
 // Sets a bit of the map; past its end nothing changes.
-#[unsafe(no_mangle)]
-pub extern "C" fn wegrulsta_set_bit(map: &mut [u8], bit: usize)
+pub fn wegrulsta_set_bit(map: &mut [u8], bit: usize)
     ensures { map.new ≡ with_bit map.old bit }
 {
     hci::set_bit(map, bit);

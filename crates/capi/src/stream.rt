@@ -58,16 +58,14 @@ fn length_of(answer: PacketLen) -> PacketLength
 }
 
 // How many octets the packet at the front takes, its indicator counted.
-#[unsafe(no_mangle)]
-pub extern "C" fn wegrulsta_packet_length(bytes: &[u8]) -> PacketLength
+pub fn wegrulsta_packet_length(bytes: &[u8]) -> PacketLength
     ensures { result ≡ length_of (packet_length bytes.now) }
 {
     length_of(h4::h4_packet_len(bytes))
 }
 
 // A stream to which nothing was fed.
-#[unsafe(no_mangle)]
-pub extern "C" fn wegrulsta_stream_start() -> H4Stream
+pub fn wegrulsta_stream_start() -> H4Stream
     ensures { (result.ready ≡ 0) × (result.held ≡ 0) }
 {
     H4Stream::new()
@@ -97,12 +95,7 @@ fn fed(stream: H4Stream, answer: Fed) -> StreamFed
 }
 
 // Appends bytes to the octets that wait, at the front of the buffer, and frames them.
-#[unsafe(no_mangle)]
-pub extern "C" fn wegrulsta_stream_feed(
-    stream: H4Stream,
-    buffer: &mut [u8],
-    bytes: &[u8],
-) -> StreamFed
+pub fn wegrulsta_stream_feed(stream: H4Stream, buffer: &mut [u8], bytes: &[u8]) -> StreamFed
     ensures { Feeds stream buffer.old bytes.now result buffer.new }
 {
     let r = stream.feed(buffer, bytes);
@@ -112,8 +105,7 @@ pub extern "C" fn wegrulsta_stream_feed(
 }
 
 // The octets of the packet of the last feed that starts at index at of the buffer, 0 where there is none.
-#[unsafe(no_mangle)]
-pub extern "C" fn wegrulsta_stream_packet(stream: H4Stream, buffer: &[u8], at: usize) -> usize
+pub fn wegrulsta_stream_packet(stream: H4Stream, buffer: &[u8], at: usize) -> usize
     ensures { result ≡ length (packet_at (take stream.ready buffer.now) at) }
 {
     let packet = stream.packet_at(buffer, at);

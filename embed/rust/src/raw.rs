@@ -1,5 +1,5 @@
 //! The calls of `libcontroller.a` and `libcapi.a` as `wegrulsta.h` declares them, and `wegrulsta_bench` of `libcapi_bench.a`:
-//! each slice is a pointer and a length, structs go by value. `crates/controller_c` and `crates/capi` have their contracts. What a caller
+//! each slice is a pointer and a length, structs go by value. `crates/controller_c` and `crates/capi_c` have their contracts. What a caller
 //! owes: pointers that are valid and aligned for their lengths, and what a call may write overlaps nothing else that it is handed. Any numbers and octets get an answer.
 
 mod types;
