@@ -21,10 +21,8 @@ pub fn key_expansion(key: [u8; 16]) -> [[u8; 4]; 44]
     w[1] = [key[4], key[5], key[6], key[7]];
     w[2] = [key[8], key[9], key[10], key[11]];
     w[3] = [key[12], key[13], key[14], key[15]];
-    let mut i: usize = 4;
-    while i < 44 {
+    for i in 4..44 {
         w[i] = add_word(w[i - 4], key_part(&table, w[i - 1], i));
-        i += 1;
     }
     w
 }
@@ -36,9 +34,7 @@ pub fn encrypt_128(key: [u8; 16], block: [u8; 16]) -> [u8; 16]
     let table = sbox_table();
     let w = key_expansion(key);
     let mut s = add_round_key(state_of(block), round_key(&w, 0));
-    let mut i: usize = 0;
-    while i < 9 {
-        i += 1;
+    for i in 1..10 {
         let t = one_round(&table, s, round_key(&w, i));
         s = t;
     }
@@ -75,10 +71,7 @@ fn state_of(b: [u8; 16]) -> [[u8; 4]; 4]
 fn octets_of(s: [[u8; 4]; 4]) -> [u8; 16]
     ensures { result ≡ octets_of s }
 {
-    let a = s[0];
-    let b = s[1];
-    let c = s[2];
-    let d = s[3];
+    let [a, b, c, d] = s;
     [
         a[0], b[0], c[0], d[0], a[1], b[1], c[1], d[1], a[2], b[2], c[2], d[2], a[3], b[3], c[3],
         d[3],
@@ -126,10 +119,7 @@ fn sub_bytes(table: &[u8; 256], s: [[u8; 4]; 4]) -> [[u8; 4]; 4]
 fn shift_rows(s: [[u8; 4]; 4]) -> [[u8; 4]; 4]
     ensures { result ≡ shift_rows s }
 {
-    let a = s[0];
-    let b = s[1];
-    let c = s[2];
-    let d = s[3];
+    let [a, b, c, d] = s;
     [
         [a[0], a[1], a[2], a[3]],
         [b[1], b[2], b[3], b[0]],
@@ -177,10 +167,7 @@ fn mix_columns(s: [[u8; 4]; 4]) -> [[u8; 4]; 4]
 fn add_round_key(s: [[u8; 4]; 4], k: [[u8; 4]; 4]) -> [[u8; 4]; 4]
     ensures { result ≡ add_round_key s k }
 {
-    let a = k[0];
-    let b = k[1];
-    let c = k[2];
-    let d = k[3];
+    let [a, b, c, d] = k;
     [
         add_word(s[0], [a[0], b[0], c[0], d[0]]),
         add_word(s[1], [a[1], b[1], c[1], d[1]]),

@@ -1,5 +1,6 @@
 -- A command follows its rule: Reset and Set Event Mask theirs where they are answered with status 0, every other passes. For the
 -- proof of demand 3.
+use Rattle.std.specs.Prelude.{Result, Ok, Err}
 use Prim.Native.Nat.{ℕ, ◌+◌, ◌-◌, ◌*◌, ◌/◌, ◌%◌, ◌^◌, ◌≤◌, ◌<◌}
 use mathlib.Core.Path.{◌≡◌, refl, sym, ap, ◌∙◌}
 use mathlib.Core.List.{List, [], ◌∷◌}
@@ -15,8 +16,6 @@ use Rattle.lists.specs.Lists.{all}
 use Rattle.lists.proofs.Tests.{all_at}
 use Rattle.hci.specs.Read.{parse_command, parameters}
 use Rattle.hci.specs.declared.read.Command.{Command}
-use Rattle.hci.specs.declared.read.CommandRead.{CommandRead}
-use Rattle.hci.specs.declared.read.CommandRead.TheVariants as command
 use Rattle.profile.specs.Profile.{row_answer, answers_fit}
 use Rattle.answers.specs.declared.Form.{Form}
 use Rattle.answers.specs.declared.Form.TheVariants.{Complete, Status, Silent}
@@ -35,6 +34,8 @@ use Rattle.agreement.proofs.Splitting.{fed_nothing}
 use Rattle.agreement.proofs.Replying.{ReplyFollows}
 use Rattle.agreement.proofs.Acknowledging.{ack_fed, answer_fed_lem}
 use Rattle.agreement.proofs.Succeeding.{reset_heard, mask_heard, reset_does, mask_does}
+use Rattle.hci.specs.declared.read.ReadError.{ReadError}
+use Rattle.hci.specs.declared.read.ReadError.TheVariants.{ShortHeader, OtherKind, ShortBody}
 
 -- ---- the opcode of a packet is a 16-bit number
 
@@ -44,11 +45,11 @@ octet_below p i h =
     (λ e. ltb-true (octet p i) 256 (all_at (λ x. ltb x 256) p i 0 h (ltb-true i (length p) e)))
     (λ e. omega (arith, get_or-eq_default p 0 (ltb-false i (length p) e)))
 
-abbrev WordOpcode : CommandRead → Type 0
-WordOpcode (command.Whole c) = c.opcode < 0x10000
-WordOpcode command.ShortHeader = Unit {0}
-WordOpcode command.NotCommand = Unit {0}
-WordOpcode command.ShortParameters = Unit {0}
+abbrev WordOpcode : Result Command ReadError → Type 0
+WordOpcode (Ok c) = c.opcode < 0x10000
+WordOpcode (Err ShortHeader) = Unit {0}
+WordOpcode (Err OtherKind) = Unit {0}
+WordOpcode (Err ShortBody) = Unit {0}
 
 opcode_word : (p : List ℕ) → all (λ x. ltb x 256) p ≡ true → WordOpcode (parse_command p)
 unfolding parse_command
@@ -145,24 +146,24 @@ module _ (g : Profile) (typed : TypedProfile g.controller) (fit : answers_fit g.
   shaped_here = record { commands = typed.commands; features = typed.features; states = typed.states; address = six }
 
   -- what the book takes the command for
-  unread : (c : Command) → c.opcode ≡ 0x0C03 → command_fed (command.Whole c) g p ≡ book.Packet.other
+  unread : (c : Command) → c.opcode ≡ 0x0C03 → command_fed (Ok c) g p ≡ book.Packet.other
   unread c e = rw e
 
-  may_pass_lem : (c : Command) → steps.may_pass (book.Call.packet (command_fed (command.Whole c) g p)) ≡ true
+  may_pass_lem : (c : Command) → steps.may_pass (book.Call.packet (command_fed (Ok c) g p)) ≡ true
   may_pass_lem c =
       cases (eqb c.opcode 0x0C01 && eqb (row_answer g.opcodes g.answers 0x0C01) 0) (λ e. rw e) (λ e. rw e)
 
   mask_read : (c : Command) → c.opcode ≡ 0x0C01 → row_answer g.opcodes g.answers c.opcode ≡ 0
-      → command_fed (command.Whole c) g p ≡ book.Packet.set_event_mask (enabled_by (octet (parameters p) 0) 4)
+      → command_fed (Ok c) g p ≡ book.Packet.set_event_mask (enabled_by (octet (parameters p) 0) 4)
   mask_read c e z = rw (e, eq-eqb (row_answer g.opcodes g.answers 0x0C01) 0 (rw e at z))
 
   whole_follows : (c : Command) → c.opcode < 0x10000
-      → ReplyFollows g (command_fed (command.Whole c) g p) m (by_command (command.Whole c) g address random p m)
+      → ReplyFollows g (command_fed (Ok c) g p) m (by_command (Ok c) g address random p m)
   whole_follows c small =
       let op = c.opcode in
       let answer = row_answer g.opcodes g.answers op in
       let n = length (parameters p) in
-      let q = command_fed (command.Whole c) g p in
+      let q = command_fed (Ok c) g p in
       cases (eqb answer 0 && (eqb op 0x0C03 && eqb n 0))
       (λ e.
       let k = (and-eq-true_iff (eqb answer 0) (eqb op 0x0C03 && eqb n 0)).0 e in
@@ -180,11 +181,11 @@ module _ (g : Profile) (typed : TypedProfile g.controller) (fit : answers_fit g.
       (λ r. true≢false (sym (rw (eq-eqb answer 0 r.0, eq-eqb op 0x0C03 r.1, eq-eqb n 0 r.2)) ∙ e))
       f (may_pass_lem c)))
 
-  read_follows : (r : CommandRead) → WordOpcode r → ReplyFollows g (command_fed r g p) m (by_command r g address random p m)
-  read_follows (command.Whole c) small = whole_follows c small
-  read_follows command.ShortHeader small = steps.Step.pass refl refl (rw fed_nothing)
-  read_follows command.NotCommand small = steps.Step.pass refl refl (rw fed_nothing)
-  read_follows command.ShortParameters small = steps.Step.pass refl refl (rw fed_nothing)
+  read_follows : (r : Result Command ReadError) → WordOpcode r → ReplyFollows g (command_fed r g p) m (by_command r g address random p m)
+  read_follows (Ok c) small = whole_follows c small
+  read_follows (Err ShortHeader) small = steps.Step.pass refl refl (rw fed_nothing)
+  read_follows (Err OtherKind) small = steps.Step.pass refl refl (rw fed_nothing)
+  read_follows (Err ShortBody) small = steps.Step.pass refl refl (rw fed_nothing)
 
   pub command_follows : all (λ x. ltb x 256) p ≡ true
       → ReplyFollows g (command_fed (parse_command p) g p) m (by_command (parse_command p) g address random p m)

@@ -2,17 +2,15 @@
 -- `demand_3` in proofs/Agreement.antt proves it. For the insurer's engineer; docs/PROOF.md says it in words. Comments in quotation
 -- marks are sentences of documents 00 and 01. The book, the premises and `CreditsHold` are in `Rattle.credits.specs.Credits`, what a
 -- call gives in `Rattle.calls.specs.Gives`.
-use Rattle.std.specs.Prelude.{◌≡◌, ℕ, zero, suc, ◌+◌, ◌≤◌, ◌<◌, Bool, true, false, cond, ◌&&◌, eqb, ltb, take, length}
+use Rattle.std.specs.Prelude.{◌≡◌, ℕ, zero, suc, ◌+◌, ◌≤◌, ◌<◌, Result, Ok, Err, Bool, true, false, cond, ◌&&◌, eqb, ltb, take, length}
 use mathlib.Core.List.{List, [], ◌∷◌, map, flatten}
 use Rattle.octets.specs.Octets.{octet, word}
 use Rattle.lists.specs.Lists.{all}
 use Rattle.h4.specs.Framing.{packets}
 use Rattle.hci.specs.Read.{parse_command, parameters, parse_acl}
 use Rattle.hci.specs.declared.read.Acl.{Acl}
-use Rattle.hci.specs.declared.read.AclRead.{AclRead}
-use Rattle.hci.specs.declared.read.CommandRead.{CommandRead}
-use Rattle.hci.specs.declared.read.AclRead.TheVariants as acl
-use Rattle.hci.specs.declared.read.CommandRead.TheVariants as command
+use Rattle.hci.specs.declared.read.Command.{Command}
+use Rattle.hci.specs.declared.read.ReadError.{ReadError}
 use Rattle.profile.specs.Profile.{row_answer}
 use Rattle.profile.specs.declared.ControllerRow.{ControllerRow}
 use Rattle.filters.specs.Filters.{entries_differ, identities_differ}
@@ -36,21 +34,17 @@ use Rattle.credits.specs.Credits as book
 abbrev pub header_fed : Acl → book.Header
 header_fed d = record { handle = d.handle; boundary = d.boundary; broadcast = d.broadcast; len = d.len }
 
-abbrev pub data_fed : AclRead → book.Packet
-data_fed (acl.Whole header) = book.Packet.acl (header_fed header)
-data_fed acl.ShortHeader = book.Packet.bad_header
-data_fed acl.NotAcl = book.Packet.bad_header
-data_fed acl.ShortData = book.Packet.bad_header
+abbrev pub data_fed : Result Acl ReadError → book.Packet
+data_fed (Ok header) = book.Packet.acl (header_fed header)
+data_fed (Err e) = book.Packet.bad_header
 
 -- a "modelled 0x0C01": bit 4 of p[0]; other commands' parameters are not read
-abbrev pub command_fed : CommandRead → Profile → List ℕ → book.Packet
-command_fed (command.Whole c) g p =
+abbrev pub command_fed : Result Command ReadError → Profile → List ℕ → book.Packet
+command_fed (Ok c) g p =
     cond (eqb c.opcode 0x0C01 && eqb (row_answer g.opcodes g.answers 0x0C01) 0)
     (book.Packet.set_event_mask (enabled_by (octet (parameters p) 0) 4))
     book.Packet.other
-command_fed command.ShortHeader g p = book.Packet.other
-command_fed command.NotCommand g p = book.Packet.other
-command_fed command.ShortParameters g p = book.Packet.other
+command_fed (Err e) g p = book.Packet.other
 
 abbrev pub packet_fed : Profile → List ℕ → book.Packet
 packet_fed g p = cond (eqb (octet p 0) 0x02) (data_fed (parse_acl p)) (command_fed (parse_command p) g p)

@@ -7,16 +7,16 @@ use hci::status::SUCCESS;
 use profile::ControllerRow;
 
 // LE Read Buffer Size (section 7.8.2).
+#[tactic(auto, unfolding(commands::specs::Air::read_buffer_size))]
 pub fn read_buffer_size(profile: ControllerRow) -> Answer
     ensures { Answers (read_buffer_size profile) result }
 {
-    let len = profile.acl_len;
-    let low = (len % 256) as u8;
-    let high = (len / 256 % 256) as u8;
+    let [low, high] = profile.acl_len.to_le_bytes();
     answers::complete(&[SUCCESS, low, high, profile.acl_count])
 }
 
 // LE Read Local Supported Features (section 7.8.3).
+#[tactic(auto, unfolding(commands::specs::Air::read_local_features))]
 pub fn read_local_features(profile: ControllerRow) -> Answer
     ensures { Answers (read_local_features profile) result }
 {
@@ -25,14 +25,15 @@ pub fn read_local_features(profile: ControllerRow) -> Answer
 }
 
 // LE Read Advertising Physical Channel Tx Power (section 7.8.6).
+#[tactic(auto, unfolding(commands::specs::Air::read_advertising_power))]
 pub fn read_advertising_power(profile: ControllerRow) -> Answer
     ensures { Answers (read_advertising_power profile) result }
 {
-    let power = signed::octet_of(profile.adv_tx_power);
-    answers::complete(&[SUCCESS, power])
+    answers::complete(&[SUCCESS, signed::octet_of(profile.adv_tx_power)])
 }
 
 // LE Read Filter Accept List Size (section 7.8.14).
+#[tactic(auto, unfolding(commands::specs::Air::read_accept_list_size))]
 pub fn read_accept_list_size(profile: ControllerRow) -> Answer
     ensures { Answers (read_accept_list_size profile) result }
 {

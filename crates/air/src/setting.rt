@@ -6,37 +6,30 @@ ghost use Rattle.commands.specs.Outcome.{GivesAny};
 ghost use Rattle.commands.specs.Parts.{with_le_event_mask};
 ghost use Rattle.commands.specs.Put.{put_settings};
 
-use commands::SettingsAnswered;
+use commands::Answered;
 use hci::status::{COMMAND_DISALLOWED, SUCCESS};
-use state::{Controller, Masks};
+use state::{Controller, Masks, Settings};
 
 // LE Set Event Mask (section 7.8.1).
 pub fn set_le_event_mask(masks: Masks, p: &[u8]) -> Masks
     requires { length p.now ≡ 8 }
     ensures { result ≡ with_le_event_mask (number_at 8 p.now 0) masks }
 {
-    let mut r = masks;
-    r.le_event = commands::long_at(p);
-    r
+    Masks {
+        le_event: commands::long_at(p),
+        ..masks
+    }
 }
 
 // LE Set Random Address (section 7.8.4): not while the link layer is busy.
-pub fn set_random_address(s: Controller, p: &[u8]) -> SettingsAnswered
+pub fn set_random_address(s: Controller, p: &[u8]) -> Answered<Settings>
     requires { length p.now ≡ 6 }
-    ensures { GivesAny (set_random_address p.now) s (put_settings result.settings s) result.answer }
+    ensures { GivesAny (set_random_address p.now) s (put_settings result.part s) result.answer }
 {
     let mut settings = s.settings;
     if state::busy(s) {
-        return SettingsAnswered {
-            settings,
-            answer: answers::done(COMMAND_DISALLOWED),
-        };
+        return Answered::done(settings, COMMAND_DISALLOWED);
     }
-    let mut address = [0u8; 6];
-    octets::put(&mut address, 0, p);
-    settings.random_address = address;
-    SettingsAnswered {
-        settings,
-        answer: answers::done(SUCCESS),
-    }
+    settings.random_address.copy_from_slice(p);
+    Answered::done(settings, SUCCESS)
 }

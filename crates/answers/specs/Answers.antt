@@ -1,7 +1,8 @@
 -- A command's answer as mathematics: the source's `Answer`, its four forms, and the octets that it becomes (Core Vol 4 Part E
 -- sections 4.4, 7.7.14 and 7.7.15). For the definitions of the commands.
-use Rattle.std.specs.Prelude.{ℕ, ◌+◌, ◌≤◌, List, [], ◌∷◌, ◌++◌, length, take, get_or}
+use Rattle.std.specs.Prelude.{◌≡◌, ℕ, ◌+◌, ◌≤◌, List, [], ◌∷◌, ◌++◌, length, get_or}
 use Rattle.hci.specs.Packet.{event, complete_params, status_params}
+use Rattle.answers.specs.Held.{held}
 use Rattle.answers.specs.declared.Form.{Form}
 use Rattle.answers.specs.declared.Form.TheVariants.{Complete, Status, Silent}
 use Rattle.answers.specs.declared.Answer.{Answer}
@@ -13,19 +14,23 @@ pub record AnswerModel : Type 0 where
   pub then : List ℕ
 
 abbrev pub answer_of : Answer → AnswerModel
-answer_of a = record { form = a.form; octets = take a.len a.octets; then = take a.then_len a.then }
+answer_of a = record { form = a.form; octets = held a.returned; then = held a.then }
+
+-- no event behind it
+abbrev pub alone : Form → List ℕ → AnswerModel
+alone form octets = record { form = form; octets = octets; then = [] }
 
 -- Command Complete: the return parameters begin with the status
 abbrev pub complete : List ℕ → AnswerModel
-complete returned = record { form = Complete; octets = returned; then = [] }
+complete returned = alone Complete returned
 
 -- Command Status
 abbrev pub status : ℕ → AnswerModel
-status code = record { form = Status; octets = code ∷ []; then = [] }
+status code = alone Status (code ∷ [])
 
 -- no acknowledgement
 abbrev pub silent : AnswerModel
-silent = record { form = Silent; octets = []; then = [] }
+silent = alone Silent []
 
 -- with an event behind it
 abbrev pub followed : List ℕ → AnswerModel → AnswerModel
@@ -46,11 +51,13 @@ least Complete = 0
 least Status = 1
 least Silent = 0
 
--- the counts fit the arrays
+-- Command Status tells its status
 pub record AnswerHolds (a : Answer) : Type 0 where
-  pub short : a.len ≤ 65
-  pub short_then : a.then_len ≤ 37
-  pub told : least a.form ≤ a.len
+  pub told : least a.form ≤ length (held a.returned)
+
+-- b is the answer a with these octets behind it
+abbrev pub Follows : List ℕ → Answer → Answer → Type 0
+Follows octets a b = (answer_of b ≡ followed octets (answer_of a)) × (AnswerHolds a → AnswerHolds b)
 
 -- what writing an acknowledgement asks: at most 65 octets, and room for them behind the six before them
 pub record CanAcknowledge (form : Form) (octets out : List ℕ) : Type 0 where
@@ -61,4 +68,4 @@ pub record CanAcknowledge (form : Form) (octets out : List ℕ) : Type 0 where
 -- what writing an answer asks
 pub record CanWrite (a : Answer) (out : List ℕ) : Type 0 where
   pub holds : AnswerHolds a
-  pub room : 6 + a.len + a.then_len ≤ length out
+  pub room : 6 + length (held a.returned) + length (held a.then) ≤ length out

@@ -1,2 +1,3 @@
 -- The definitions of a command's answer.
+pub mod Held
 pub mod Answers

@@ -4,12 +4,15 @@
 #![tactic(auto)]
 
 ghost use Rattle.std.specs.Prelude.{◌≡◌, [], ◌∷◌, ◌≤◌, length};
-ghost use Rattle.octets.specs.Octets.{Put, le};
+ghost use Rattle.octets.specs.Octets.{Put, le, octet};
 ghost use Rattle.hci.specs.Write.{count};
 ghost use Rattle.answers.specs.Answers as spec;
-ghost use Rattle.answers.specs.Answers.{answer_of, acknowledgement, octets_of, followed, AnswerHolds, CanAcknowledge, CanWrite};
+ghost use Rattle.answers.specs.Answers.{answer_of, acknowledgement, octets_of, AnswerHolds, Follows, CanAcknowledge, CanWrite};
 
-use hci::Written;
+mod held;
+
+use hci::WriteError;
+pub use held::Held;
 
 // Acknowledged by Command Complete, by Command Status, or not at all. An event may follow the first two.
 #[derive(Clone, Copy)]
@@ -19,15 +22,34 @@ pub enum Form {
     Silent,
 }
 
-// `octets` are the return parameters of Command Complete, or the status of Command Status; `then` is the event that follows,
+// `returned` are the return parameters of Command Complete, or the status of Command Status; `then` is the event that follows,
 // of no octets where there is none.
 #[derive(Clone, Copy)]
 pub struct Answer {
     pub form: Form,
-    pub octets: [u8; 65],
-    pub len: usize,
-    pub then: [u8; 37],
-    pub then_len: usize,
+    pub returned: Held<65>,
+    pub then: Held<37>,
+}
+
+impl Answer {
+    // The status that it tells: the first octet of what is acknowledged, 0 where it has none.
+    pub fn status(&self) -> u8
+        ensures { result ≡ octet (answer_of self.now).octets 0 }
+    {
+        self.returned.as_slice().first().copied().unwrap_or(0)
+    }
+}
+
+// An acknowledgement with no event behind it.
+fn alone(form: Form, returned: &[u8]) -> Answer
+    requires { length returned.now ≤ 65 }
+    ensures { answer_of result ≡ spec.alone form returned.now }
+{
+    Answer {
+        form,
+        returned: Held::from_slice(returned),
+        then: Held::from_slice(&[]),
+    }
 }
 
 // Command Complete with these return parameters.
@@ -35,15 +57,7 @@ pub fn complete(returned: &[u8]) -> Answer
     requires { length returned.now ≤ 65 }
     ensures { (answer_of result ≡ spec.complete returned.now) × AnswerHolds result }
 {
-    let mut octets = [0u8; 65];
-    let len = octets::put(&mut octets, 0, returned);
-    Answer {
-        form: Form::Complete,
-        octets,
-        len,
-        then: [0; 37],
-        then_len: 0,
-    }
+    alone(Form::Complete, returned)
 }
 
 // Command Complete with a status alone.
@@ -57,8 +71,7 @@ pub fn done(code: u8) -> Answer
 pub fn done_handle(code: u8, handle: u16) -> Answer
     ensures { (answer_of result ≡ spec.complete (code ∷ le 2 handle)) × AnswerHolds result }
 {
-    let low = (handle % 256) as u8;
-    let high = (handle / 256 % 256) as u8;
+    let [low, high] = handle.to_le_bytes();
     complete(&[code, low, high])
 }
 
@@ -66,70 +79,43 @@ pub fn done_handle(code: u8, handle: u16) -> Answer
 pub fn status(code: u8) -> Answer
     ensures { (answer_of result ≡ spec.status code) × AnswerHolds result }
 {
-    let mut octets = [0u8; 65];
-    octets[0] = code;
-    Answer {
-        form: Form::Status,
-        octets,
-        len: 1,
-        then: [0; 37],
-        then_len: 0,
-    }
+    alone(Form::Status, &[code])
 }
 
 // No acknowledgement.
 pub fn silent() -> Answer
     ensures { (answer_of result ≡ spec.silent) × AnswerHolds result }
 {
-    Answer {
-        form: Form::Silent,
-        octets: [0; 65],
-        len: 0,
-        then: [0; 37],
-        then_len: 0,
-    }
+    alone(Form::Silent, &[])
 }
 
 // The same answer with an event behind it.
 pub fn followed_by(answer: Answer, event: &[u8]) -> Answer
     requires { length event.now ≤ 37 }
-    ensures { (answer_of result ≡ followed event.now (answer_of answer)) × (AnswerHolds answer → AnswerHolds result) }
+    ensures { Follows event.now answer result }
 {
-    let mut then = [0u8; 37];
-    let then_len = octets::put(&mut then, 0, event);
-    let form = answer.form;
-    let octets = answer.octets;
     Answer {
-        form,
-        octets,
-        len: answer.len,
-        then,
-        then_len,
+        then: Held::from_slice(event),
+        ..answer
     }
 }
 
 // How many octets a writer says it wrote.
-fn counted(written: Written) -> usize
+fn counted(written: Result<usize, WriteError>) -> usize
     ensures { result ≡ count written }
 {
-    match written {
-        Written::Octets(n) => n,
-        Written::TooLong => 0,
-        Written::NoRoom => 0,
-    }
+    written.unwrap_or(0)
 }
 
 // Writes the acknowledgement to the front of out, and returns the index after it.
+#[tactic(auto, using(octets::proofs::Writing::put_none))]
 fn acknowledge(form: Form, returned: &[u8], num: u8, op: u16, out: &mut [u8]) -> usize
     requires { CanAcknowledge form returned.now out.old }
     ensures { Put out.old 0 (acknowledgement form num op returned.now) result out.new }
 {
     match form {
         Form::Complete => counted(hci::command_complete(num, op, returned, out)),
-        Form::Status => {
-            let code = returned[0];
-            counted(hci::command_status(num, code, op, out))
-        }
+        Form::Status => counted(hci::command_status(num, returned[0], op, out)),
         Form::Silent => 0,
     }
 }
@@ -139,11 +125,6 @@ pub fn write_answer(answer: Answer, num: u8, op: u16, out: &mut [u8]) -> usize
     requires { CanWrite answer out.old }
     ensures { Put out.old 0 (octets_of num op (answer_of answer)) result out.new }
 {
-    let form = answer.form;
-    let octets = answer.octets;
-    let len = answer.len;
-    let at = acknowledge(form, &octets[..len], num, op, out);
-    let then = answer.then;
-    let then_len = answer.then_len;
-    octets::put(out, at, &then[..then_len])
+    let at = acknowledge(answer.form, answer.returned.as_slice(), num, op, out);
+    octets::put(out, at, answer.then.as_slice())
 }

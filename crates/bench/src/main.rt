@@ -3,179 +3,105 @@
 // printed for it is the crate `records`.
 #![tactic(auto)]
 
-ghost use Rattle.std.specs.Prelude.{◌≡◌, ◌≤◌, length, IfOk, OnErr};
-ghost use Rattle.calls.specs.Calls.{held};
+ghost use Rattle.std.specs.Prelude.{◌≤◌};
+ghost use Rattle.calls.specs.Calls as calls;
 ghost use Rattle.records.specs.Bench.{Running};
 
 use state::Controller;
 use std::io;
 use std::io::Read;
 
-// Between two parts of the input: the state, how many octets of a line are held, and whether the run goes on.
-#[derive(Clone, Copy)]
-struct Reading {
+// Between two parts of the input: the unit's state and pool, the buffer of a line with how many octets at its front are held, and
+// a buffer for the octets of a packet. The state always holds together, also where a read or a write has failed.
+#[derive(Drop)]
+struct Bench {
     state: Controller,
+    pool: [u8; 64],
+    line: [u8; 2050],
     held: usize,
-    more: bool,
+    packet: [u8; 1024],
+    ghost runs: { Running (calls.held state pool) },
+    ghost fits: { held ≤ 2050 },
 }
 
 fn main(rt: HostRuntime) -> io::Result<()> {
-    rt.write_all(b"H\t1\n")?;
-    let mut pool = [0u8; 64];
-    let mut packet = [0u8; 1024];
-    let mut line = [0u8; 2050];
-    let s = controller::default_state();
-    let mut input = rt.stdin();
-    let r = on_input(&rt, &mut input, s, &mut pool, &mut line, &mut packet)?;
-    let n = r.held;
-    let t = r.state;
-    if r.more && n > 0 {
-        on_line(&rt, t, &mut pool, &line[..n], &mut packet)?;
+    println!(rt; "H\t1")?;
+    let mut bench = Bench {
+        state: controller::default_state(),
+        pool: [0; 64],
+        line: [0; 2050],
+        held: 0,
+        packet: [0; 1024],
+    };
+    let goes_on = bench.on_input(&rt, &mut rt.stdin())?;
+    if goes_on && bench.held > 0 {
+        bench.on_line(&rt)?;
     }
     Ok(())
 }
 
-// All of the input. Nothing says that it ends, so the loop has a number of turns that no run uses up. Where a read or a write
-// fails, here and below, the state is lost, and the pool still has its two places.
-fn on_input(
-    rt: &impl Print,
-    input: &mut impl Read,
-    s: Controller,
-    pool: &mut [u8],
-    line: &mut [u8],
-    packet: &mut [u8],
-) -> io::Result<Reading>
-    requires { Running (held s pool.old) × ((length line.old ≡ 2050) × (1024 ≤ length packet.old)) }
-    ensures ok { IfOk result (λ r. Running (held r.state pool.new) × (r.held ≤ 2050)) }
-    ensures err { OnErr result (64 ≤ length pool.new) }
-{
-    let mut state = s;
-    let mut held: usize = 0;
-    let mut more = true;
-    let mut part = [0u8; 65536];
-    for _ in 0..u64::MAX {
-        let n = input.read(&mut part)?;
-        if n == 0 {
-            break;
+// Each gives whether the run goes on.
+impl Bench {
+    // All of the input. Nothing says that it ends, so the loop has a number of turns that no run uses up.
+    fn on_input(&mut self, rt: &impl Print, input: &mut impl Read) -> io::Result<bool> {
+        let mut part = [0u8; 65536];
+        for _ in 0..u64::MAX {
+            let n = input.read(&mut part)?;
+            if n == 0 {
+                break;
+            }
+            if !self.on_part(rt, &part[..n])? {
+                return Ok(false);
+            }
         }
-        let r = on_part(rt, state, pool, line, held, packet, &part[..n])?;
-        state = r.state;
-        held = r.held;
-        more = r.more;
-        if !more {
-            break;
+        Ok(true)
+    }
+
+    // A part of the input, behind the octets of a line that are held: each line that ends in it is carried out, and what follows
+    // the last newline is held.
+    fn on_part(&mut self, rt: &impl Print, part: &[u8]) -> io::Result<bool> {
+        for piece in part.split_inclusive(|x| *x == b'\n') {
+            let (octets, ends) = match piece {
+                [octets @ .., b'\n'] => (octets, true),
+                _ => (piece, false),
+            };
+            if !self.hold(octets) {
+                return Ok(false);
+            }
+            if ends && !self.on_line(rt)? {
+                return Ok(false);
+            }
         }
+        Ok(true)
     }
-    Ok(Reading { state, held, more })
-}
 
-// A part of the input, behind the octets of a line that are held: each line that ends in it is carried out, and what follows the
-// last newline is held.
-fn on_part(
-    rt: &impl Print,
-    s: Controller,
-    pool: &mut [u8],
-    line: &mut [u8],
-    before: usize,
-    packet: &mut [u8],
-    part: &[u8],
-) -> io::Result<Reading>
-    requires { Running (held s pool.old) × ((before ≤ 2050) × ((length line.old ≡ 2050) × (1024 ≤ length packet.old))) }
-    ensures ok { IfOk result (λ r. Running (held r.state pool.new) × (r.held ≤ 2050)) }
-    ensures err { OnErr result (64 ≤ length pool.new) }
-{
-    let mut state = s;
-    let mut held = before;
-    let mut i: usize = 0;
-    while i < part.len() {
-        let end = newline_from(part, i);
-        let next = end + 1;
-        let ends = end < part.len();
-        let r = on_piece(rt, state, pool, line, held, packet, &part[i..end], ends)?;
-        if !r.more {
-            return Ok(r);
+    // Octets with no newline, behind those of the line that are held. A line of more than 2,050 octets is no record.
+    fn hold(&mut self, octets: &[u8]) -> bool {
+        if octets.len() > 2050 - self.held {
+            return false;
         }
-        state = r.state;
-        held = r.held;
-        i = next;
+        self.held = octets::put(&mut self.line, self.held, octets);
+        true
     }
-    Ok(Reading {
-        state,
-        held,
-        more: true,
-    })
-}
 
-// Octets with no newline, behind those of the line that are held; a line that ends with them is carried out. A line of more than
-// 2,050 octets is no record.
-fn on_piece(
-    rt: &impl Print,
-    s: Controller,
-    pool: &mut [u8],
-    line: &mut [u8],
-    before: usize,
-    packet: &mut [u8],
-    piece: &[u8],
-    ends: bool,
-) -> io::Result<Reading>
-    requires { Running (held s pool.old) × ((before ≤ 2050) × ((length line.old ≡ 2050) × (1024 ≤ length packet.old))) }
-    ensures ok { IfOk result (λ r. Running (held r.state pool.new) × (r.held ≤ 2050)) }
-    ensures err { OnErr result (64 ≤ length pool.new) }
-{
-    if piece.len() > 2050 - before {
-        return Ok(Reading {
-            state: s,
-            held: 0,
-            more: false,
-        });
+    // The octets that are held are a line: its answer is printed, and nothing is held.
+    fn on_line(&mut self, rt: &impl Print) -> io::Result<bool> {
+        let mut out = [0u8; 512];
+        let line = &self.line[..self.held];
+        let answer = records::step(
+            self.state,
+            &mut self.pool,
+            line,
+            &mut self.packet,
+            &mut out,
+            0,
+        );
+        self.held = 0;
+        let Some(printed) = answer else {
+            return Ok(false);
+        };
+        self.state = printed.state;
+        rt.write_all(&out[..printed.next])?;
+        Ok(true)
     }
-    let n = octets::put(line, before, piece);
-    if ends {
-        on_line(rt, s, pool, &line[..n], packet)
-    } else {
-        Ok(Reading {
-            state: s,
-            held: n,
-            more: true,
-        })
-    }
-}
-
-// The index of the first newline from index at on, or the length where there is none.
-fn newline_from(part: &[u8], at: usize) -> usize
-    requires { at ≤ length part.now }
-    ensures { (at ≤ result) × (result ≤ length part.now) }
-{
-    let mut i = at;
-    while i < part.len() {
-        if part[i] == b'\n' {
-            return i;
-        }
-        i += 1;
-    }
-    i
-}
-
-// One line: its answer is printed, and nothing is held.
-fn on_line(
-    rt: &impl Print,
-    s: Controller,
-    pool: &mut [u8],
-    line: &[u8],
-    packet: &mut [u8],
-) -> io::Result<Reading>
-    requires { Running (held s pool.old) × (1024 ≤ length packet.old) }
-    ensures ok { IfOk result (λ r. Running (held r.state pool.new) × (r.held ≤ 2050)) }
-    ensures err { OnErr result (64 ≤ length pool.new) }
-{
-    let mut out = [0u8; 512];
-    let r = records::step(s, pool, line, packet, &mut out, 0);
-    let n = r.next;
-    let t = r.state;
-    rt.write_all(&out[..n])?;
-    Ok(Reading {
-        state: t,
-        held: 0,
-        more: r.more,
-    })
 }

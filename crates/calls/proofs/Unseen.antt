@@ -1,6 +1,7 @@
 -- What no definition decides is never shown, proved: the claims are `Unseen` and `StartsAlike` of specs/Unseen.antt. A refused
 -- call changes nothing. An accepted one gives what its definition says of equal states, and the pool keeps its length, which is
 -- all that a later call asks of the pool besides the packets that wait.
+use Rattle.std.specs.Prelude.{Result, Ok, Err}
 use mathlib.Core.Path.{◌≡◌, refl, sym, ap, ◌∙◌}
 use Prim.Native.Nat.{ℕ, ◌+◌, ◌*◌, ◌≤◌}
 use mathlib.Core.Bool.{Bool, true, false, ◌&&◌}
@@ -13,8 +14,7 @@ use borrow.Table.Steps.{cases}
 use Rattle.octets.specs.Octets.{octet, splice}
 use Rattle.octets.proofs.Writing.{length_splice}
 use Rattle.hci.specs.Read.{parse_acl}
-use Rattle.hci.specs.declared.read.AclRead.{AclRead}
-use Rattle.hci.specs.declared.read.AclRead.TheVariants as acl
+use Rattle.hci.specs.declared.read.Acl.{Acl}
 use Rattle.profile.specs.declared.ControllerRow.{ControllerRow}
 use Rattle.links.specs.Links.{has, in_use}
 use Rattle.transmit.proofs.Fitting.{place_room}
@@ -26,21 +26,23 @@ use Rattle.calls.specs.Calls.{Call, on_packet, take_transmit, open_connection, c
 use Rattle.calls.specs.Gives.{Answer, Refused, PoolAfter, PoolLeft, Accepted, Gives}
 use Rattle.calls.specs.Unseen.{Alike, Unseen, StartsAlike}
 use Rattle.calls.proofs.Questions.{all_yes}
+use Rattle.hci.specs.declared.read.ReadError.{ReadError}
+use Rattle.hci.specs.declared.read.ReadError.TheVariants.{ShortHeader, OtherKind, ShortBody}
 
 -- ---- the pool keeps its length
 
 -- an accepted packet's length is at most acl_len; the header of a packet that does not parse says 0
-header_fits : (k : ControllerRow) (r : AclRead) (m : Model) → accepts k r m ≡ true → (header_of r).len ≤ k.acl_len
-header_fits k (acl.Whole header) m e =
+header_fits : (k : ControllerRow) (r : Result Acl ReadError) (m : Model) → accepts k r m ≡ true → (header_of r).len ≤ k.acl_len
+header_fits k (Ok header) m e =
     let short = leb header.len k.acl_len in
     let free = ltb (in_use m.links) k.acl_count in
     let linked = has header.handle m.links.connections in
     let served = both (flags_served header) (linked && (short && free)) e in
     let tests = both linked (short && free) served.1 in
     leb-true header.len k.acl_len (both short free tests.1).0
-header_fits k acl.ShortHeader m e = omega arith
-header_fits k acl.NotAcl m e = omega arith
-header_fits k acl.ShortData m e = omega arith
+header_fits k (Err ShortHeader) m e = omega arith
+header_fits k (Err OtherKind) m e = omega arith
+header_fits k (Err ShortBody) m e = omega arith
 
 -- so a packet that waits fits a place
 stored_fits : (g : Profile) (p : List ℕ) (m : Model) → queues g p m ≡ true → length (stored p) ≤ place_size g.controller

@@ -1,14 +1,12 @@
 -- What a packet from the host does and what the host hears of it: the source's `on_packet` and `acl`, as functions of the state
 -- (Core Vol 4 Part A section 2, Part E sections 4.1.1, 5.4.1 and 5.4.2). For the controller's calls, and for the theorem about
 -- lists of calls.
-use Rattle.std.specs.Prelude.{ℕ, ◌+◌, List, [], Bool, false, cond, ◌&&◌, leb, ltb, eqb, take}
+use Rattle.std.specs.Prelude.{ℕ, ◌+◌, List, [], Result, Ok, Err, Bool, false, cond, ◌&&◌, leb, ltb, eqb, take}
 use Rattle.octets.specs.Octets.{octet}
 use Rattle.hci.specs.Read.{parse_command, parameters, parse_acl}
 use Rattle.hci.specs.declared.read.Acl.{Acl}
-use Rattle.hci.specs.declared.read.AclRead.{AclRead}
-use Rattle.hci.specs.declared.read.AclRead.TheVariants as acl
-use Rattle.hci.specs.declared.read.CommandRead.{CommandRead}
-use Rattle.hci.specs.declared.read.CommandRead.TheVariants as command
+use Rattle.hci.specs.declared.read.Command.{Command}
+use Rattle.hci.specs.declared.read.ReadError.{ReadError}
 use Rattle.profile.specs.declared.ControllerRow.{ControllerRow}
 use Rattle.profile.specs.Profile.{row_answer}
 use Rattle.links.specs.Links.{has, in_use, enqueued}
@@ -41,21 +39,17 @@ flags_served header = eqb header.broadcast 0 && leb header.boundary 2
 
 -- sections 4.1.1 and 7.8.2: a packet is queued if its header parses, its flags are served, its handle is connected, its length is at
 -- most acl_len and buffers in use are below acl_count
-abbrev pub accepts : ControllerRow → AclRead → Model → Bool
-accepts k (acl.Whole header) m =
+abbrev pub accepts : ControllerRow → Result Acl ReadError → Model → Bool
+accepts k (Ok header) m =
     flags_served header
     && (has header.handle m.links.connections
     && (leb header.len k.acl_len && ltb (in_use m.links) k.acl_count))
-accepts k acl.ShortHeader m = false
-accepts k acl.NotAcl m = false
-accepts k acl.ShortData m = false
+accepts k (Err e) m = false
 
 -- the header of a packet that parses; nothing is read of another
-abbrev pub header_of : AclRead → Acl
-header_of (acl.Whole header) = header
-header_of acl.ShortHeader = record { handle = 0; boundary = 0; broadcast = 0; len = 0 }
-header_of acl.NotAcl = record { handle = 0; boundary = 0; broadcast = 0; len = 0 }
-header_of acl.ShortData = record { handle = 0; boundary = 0; broadcast = 0; len = 0 }
+abbrev pub header_of : Result Acl ReadError → Acl
+header_of (Ok header) = header
+header_of (Err e) = record { handle = 0; boundary = 0; broadcast = 0; len = 0 }
 
 -- what waits is the packet as far as its length says
 abbrev pub stored : List ℕ → List ℕ
@@ -75,13 +69,11 @@ data_packet k p m = cond (accepts k (parse_acl p) m) (queued p m) (discarded m)
 -- ---- commands
 
 -- a command goes by its opcode's row; one whose header or parameters are cut short gives no event and is not counted
-abbrev pub by_command : CommandRead → Profile → List ℕ → ℕ → List ℕ → Model → Reply
-by_command (command.Whole c) g address random p m =
+abbrev pub by_command : Result Command ReadError → Profile → List ℕ → ℕ → List ℕ → Model → Reply
+by_command (Ok c) g address random p m =
     reply (whole.command_octets (given g.controller address random (parameters p)) (row_answer g.opcodes g.answers c.opcode) c.opcode m)
     (whole.command (given g.controller address random (parameters p)) (row_answer g.opcodes g.answers c.opcode) c.opcode m).state
-by_command command.ShortHeader g address random p m = reply [] m
-by_command command.NotCommand g address random p m = reply [] m
-by_command command.ShortParameters g address random p m = reply [] m
+by_command (Err e) g address random p m = reply [] m
 
 -- ---- packets
 

@@ -5,10 +5,10 @@ ghost use Rattle.hci.specs.Write as write;
 ghost use Rattle.hci.specs.Opcode.{opcode_of, is_async};
 ghost use Rattle.hci.specs.Bits as bits;
 ghost use Rattle.hci.specs.Bits.{with_bit};
-ghost use Rattle.hci.specs.Read.{parse_command, acl_parts};
-ghost use Rattle.capi.specs.Packets.{Writes, WritesEvent, HasBit, command_of, data_of, acl_of};
+ghost use Rattle.hci.specs.Read.{parse_command, parse_acl};
+ghost use Rattle.capi.specs.Packets.{Writes, WritesEvent, HasBit, kind_of, command_of, acl_of};
 
-use hci::{AclRead, Command, CommandRead, Has, Written};
+use hci::{Acl, Command, MaskError, ReadError, WriteError};
 
 // What a writer answers: 0, 8 or 9, and how many octets it wrote to the front of the buffer.
 #[repr(C)]
@@ -57,22 +57,19 @@ pub struct ReadAcl {
 }
 
 // A writer's answer as C gets it.
-fn written(answer: Written) -> Wrote
-    ensures { (result.number ≡ write.number answer) × (result.written ≡ write.count answer) }
-{
-    match answer {
-        Written::Octets(n) => Wrote {
-            number: 0,
-            written: n,
-        },
-        Written::TooLong => Wrote {
-            number: 8,
-            written: 0,
-        },
-        Written::NoRoom => Wrote {
-            number: 9,
-            written: 0,
-        },
+impl From<Result<usize, WriteError>> for Wrote {
+    ghost from_gives = { λ answer r. (r.number ≡ write.number answer) × (r.written ≡ write.count answer) };
+
+    fn from(answer: Result<usize, WriteError>) -> Wrote {
+        let number = match answer {
+            Ok(_) => 0,
+            Err(WriteError::TooLong) => 8,
+            Err(WriteError::NoRoom) => 9,
+        };
+        Wrote {
+            number,
+            written: answer.unwrap_or(0),
+        }
     }
 }
 
@@ -80,7 +77,7 @@ fn written(answer: Written) -> Wrote
 pub fn wegrulsta_write_event(code: u8, params: &[u8], out: &mut [u8]) -> Wrote
     ensures { WritesEvent code params.now out.old result out.new }
 {
-    written(hci::event(code, params, out))
+    hci::event(code, params, out).into()
 }
 
 // An ACL data packet: the handle's low 12 bits, the boundary flag above them, broadcast flag 0.
@@ -88,7 +85,7 @@ pub fn wegrulsta_write_acl(handle: u16, boundary: u8, load: &[u8], out: &mut [u8
     ensures { Writes (length load.now) 65535 (packet.acl handle boundary load.now)
         out.old result out.new }
 {
-    written(hci::acl(handle, boundary, load, out))
+    hci::acl(handle, boundary, load, out).into()
 }
 
 // Command Complete.
@@ -100,14 +97,14 @@ pub fn wegrulsta_write_command_complete(
 ) -> Wrote
     ensures { WritesEvent 0x0E (packet.complete_params num op return_params.now) out.old result out.new }
 {
-    written(hci::command_complete(num, op, return_params, out))
+    hci::command_complete(num, op, return_params, out).into()
 }
 
 // Command Status.
 pub fn wegrulsta_write_command_status(num: u8, status: u8, op: u16, out: &mut [u8]) -> Wrote
     ensures { WritesEvent 0x0F (packet.status_params num status op) out.old result out.new }
 {
-    written(hci::command_status(num, status, op, out))
+    hci::command_status(num, status, op, out).into()
 }
 
 // Number Of Completed Packets, of pairs of a handle and a count; where one slice is longer, what it has more is no pair.
@@ -116,41 +113,44 @@ pub fn wegrulsta_write_completed_packets(handles: &[u16], counts: &[u16], out: &
         (packet.event 0x13 (packet.completed_params handles.now counts.now))
         out.old result out.new }
 {
-    written(hci::number_of_completed_packets(handles, counts, out))
+    hci::number_of_completed_packets(handles, counts, out).into()
 }
 
 // An LE Meta event.
 pub fn wegrulsta_write_le_meta(subevent: u8, params: &[u8], out: &mut [u8]) -> Wrote
     ensures { WritesEvent 0x3E (packet.meta_params subevent params.now) out.old result out.new }
 {
-    written(hci::le_meta(subevent, params, out))
+    hci::le_meta(subevent, params, out).into()
+}
+
+// Why a packet is not read, as C gets it. No `From`: neither type is of this crate.
+fn kind_of(e: ReadError) -> u8
+    ensures { result ≡ kind_of e }
+{
+    match e {
+        ReadError::ShortHeader => SHORT_HEADER,
+        ReadError::OtherKind => ANOTHER_KIND,
+        ReadError::ShortBody => SHORT_BODY,
+    }
 }
 
 // What a packet read as a command is, as C gets it.
-fn command_of(answer: CommandRead) -> ReadCommand
-    ensures { result ≡ command_of answer }
-{
-    match answer {
-        CommandRead::Whole(c) => ReadCommand {
-            kind: WHOLE,
-            len: c.len,
-            opcode: c.opcode,
-        },
-        CommandRead::ShortHeader => ReadCommand {
-            kind: SHORT_HEADER,
-            len: 0,
-            opcode: 0,
-        },
-        CommandRead::NotCommand => ReadCommand {
-            kind: ANOTHER_KIND,
-            len: 0,
-            opcode: 0,
-        },
-        CommandRead::ShortParameters => ReadCommand {
-            kind: SHORT_BODY,
-            len: 0,
-            opcode: 0,
-        },
+impl From<Result<Command, ReadError>> for ReadCommand {
+    ghost from_gives = { λ answer r. r ≡ command_of answer };
+
+    fn from(answer: Result<Command, ReadError>) -> ReadCommand {
+        match answer {
+            Ok(c) => ReadCommand {
+                kind: WHOLE,
+                len: c.len,
+                opcode: c.opcode,
+            },
+            Err(e) => ReadCommand {
+                kind: kind_of(e),
+                len: 0,
+                opcode: 0,
+            },
+        }
     }
 }
 
@@ -158,52 +158,38 @@ fn command_of(answer: CommandRead) -> ReadCommand
 pub fn wegrulsta_read_command(packet: &[u8]) -> ReadCommand
     ensures { result ≡ command_of (parse_command packet.now) }
 {
-    command_of(Command::parse(packet))
+    Command::parse(packet).into()
 }
 
 // What a packet read as ACL data is, as C gets it.
-fn data_of(answer: AclRead, boundary: u8, broadcast: u8) -> ReadAcl
-    ensures { result ≡ data_of answer boundary broadcast }
-{
-    match answer {
-        AclRead::Whole(c) => ReadAcl {
-            kind: WHOLE,
-            boundary,
-            broadcast,
-            handle: c.handle,
-            len: c.len,
-        },
-        AclRead::ShortHeader => ReadAcl {
-            kind: SHORT_HEADER,
-            boundary,
-            broadcast,
-            handle: 0,
-            len: 0,
-        },
-        AclRead::NotAcl => ReadAcl {
-            kind: ANOTHER_KIND,
-            boundary,
-            broadcast,
-            handle: 0,
-            len: 0,
-        },
-        AclRead::ShortData => ReadAcl {
-            kind: SHORT_BODY,
-            boundary,
-            broadcast,
-            handle: 0,
-            len: 0,
-        },
+impl From<Result<Acl, ReadError>> for ReadAcl {
+    ghost from_gives = { λ answer r. r ≡ acl_of answer };
+
+    fn from(answer: Result<Acl, ReadError>) -> ReadAcl {
+        match answer {
+            Ok(c) => ReadAcl {
+                kind: WHOLE,
+                boundary: c.boundary,
+                broadcast: c.broadcast,
+                handle: c.handle,
+                len: c.len,
+            },
+            Err(e) => ReadAcl {
+                kind: kind_of(e),
+                boundary: 0,
+                broadcast: 0,
+                handle: 0,
+                len: 0,
+            },
+        }
     }
 }
 
 // Reads a packet as ACL data; octets past its length are ignored.
 pub fn wegrulsta_read_acl(packet: &[u8]) -> ReadAcl
-    ensures { result ≡ acl_of (acl_parts packet.now) }
+    ensures { result ≡ acl_of (parse_acl packet.now) }
 {
-    let parts = hci::acl_parts(packet);
-    let header = parts.header;
-    data_of(header, parts.boundary, parts.broadcast)
+    Acl::parse(packet).into()
 }
 
 // The opcode of a group and a command in it.
@@ -221,22 +207,17 @@ pub fn wegrulsta_is_async(op: u16) -> bool
 }
 
 // What `mask_has` answers, as C gets it.
-fn said(answer: Has) -> MaskHas
-    ensures { (result.number ≡ bits.number answer) × (result.has ≡ bits.says answer) }
-{
-    match answer {
-        Has::Yes => MaskHas {
-            number: 0,
-            has: true,
-        },
-        Has::No => MaskHas {
-            number: 0,
-            has: false,
-        },
-        Has::NoSuchBit => MaskHas {
-            number: 10,
-            has: false,
-        },
+impl From<Result<bool, MaskError>> for MaskHas {
+    ghost from_gives = { λ answer r. (r.number ≡ bits.number answer) × (r.has ≡ bits.says answer) };
+
+    fn from(answer: Result<bool, MaskError>) -> MaskHas {
+        match answer {
+            Ok(has) => MaskHas { number: 0, has },
+            Err(MaskError::NoSuchBit) => MaskHas {
+                number: 10,
+                has: false,
+            },
+        }
     }
 }
 
@@ -244,7 +225,7 @@ fn said(answer: Has) -> MaskHas
 pub fn wegrulsta_mask_has(mask: u64, bit: u32) -> MaskHas
     ensures { HasBit mask bit result }
 {
-    said(hci::mask_has(mask, bit))
+    hci::mask_has(mask, bit).into()
 }
 
 // Sets a bit of the map; past its end nothing changes.

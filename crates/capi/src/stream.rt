@@ -1,10 +1,11 @@
-// A stream of octets cut into packets (H4, Core Vol 4 Part A): the length of the packet at the front of some octets, and a stream
-// over a buffer that the caller lends. An answer's `kind` says which of its other fields tell something; the others are 0.
+// A stream of octets cut into packets (H4, Core Vol 4 Part A): the length of the packet at the front of some octets, and a
+// stream over a buffer that the caller lends. An answer's `kind` says which of its other fields tell something; the others
+// are 0.
 ghost use Rattle.std.specs.Prelude.{◌≡◌, length, take};
 ghost use Rattle.h4.specs.Framing.{packet_length, packet_at};
 ghost use Rattle.capi.specs.Framing.{length_of, fed_of, Feeds};
 
-use h4::{Fed, H4Stream, PacketLen};
+use h4::{FedStream, H4Stream, StreamError};
 
 // The kinds: whole packets, too few octets to tell, an indicator that is not defined, and no room in the buffer.
 pub const PACKETS: u8 = 0;
@@ -15,7 +16,7 @@ pub const UNDEFINED: u8 = 2;
 
 pub const NO_ROOM: u8 = 3;
 
-// PACKETS: the packet at the front has len octets. MORE, or UNDEFINED with the indicator.
+// PACKETS: the packet at the front has len octets. MORE, or UNDEFINED with the indicator; never NO_ROOM.
 #[repr(C)]
 #[derive(Clone, Copy)]
 pub struct PacketLength {
@@ -35,25 +36,21 @@ pub struct StreamFed {
 }
 
 // What the octets at the front say, as C gets it.
-fn length_of(answer: PacketLen) -> PacketLength
-    ensures { result ≡ length_of answer }
-{
-    match answer {
-        PacketLen::Packet(n) => PacketLength {
-            kind: PACKETS,
-            indicator: 0,
-            len: n,
-        },
-        PacketLen::More => PacketLength {
-            kind: MORE,
-            indicator: 0,
-            len: 0,
-        },
-        PacketLen::Undefined(indicator) => PacketLength {
-            kind: UNDEFINED,
+impl From<Result<Option<usize>, StreamError>> for PacketLength {
+    ghost from_gives = { λ answer r. r ≡ length_of answer };
+
+    fn from(answer: Result<Option<usize>, StreamError>) -> PacketLength {
+        let (kind, indicator, len) = match answer {
+            Ok(Some(n)) => (PACKETS, 0, n),
+            Ok(None) => (MORE, 0, 0),
+            Err(StreamError::Undefined(indicator)) => (UNDEFINED, indicator, 0),
+            Err(StreamError::NoRoom) => (NO_ROOM, 0, 0),
+        };
+        PacketLength {
+            kind,
             indicator,
-            len: 0,
-        },
+            len,
+        }
     }
 }
 
@@ -61,7 +58,7 @@ fn length_of(answer: PacketLen) -> PacketLength
 pub fn wegrulsta_packet_length(bytes: &[u8]) -> PacketLength
     ensures { result ≡ length_of (packet_length bytes.now) }
 {
-    length_of(h4::h4_packet_len(bytes))
+    h4::h4_packet_len(bytes).into()
 }
 
 // A stream to which nothing was fed.
@@ -72,25 +69,20 @@ pub fn wegrulsta_stream_start() -> H4Stream
 }
 
 // What feeding a stream answers, as C gets it.
-fn fed(stream: H4Stream, answer: Fed) -> StreamFed
-    ensures { result ≡ fed_of stream answer }
-{
-    match answer {
-        Fed::Packets(n) => StreamFed {
-            stream,
-            kind: PACKETS,
-            indicator: 0,
-        },
-        Fed::Lost(indicator) => StreamFed {
-            stream,
-            kind: UNDEFINED,
+impl From<FedStream> for StreamFed {
+    ghost from_gives = { λ r told. told ≡ fed_of r.stream r.answer };
+
+    fn from(r: FedStream) -> StreamFed {
+        let (kind, indicator) = match r.answer {
+            Ok(_) => (PACKETS, 0),
+            Err(StreamError::Undefined(indicator)) => (UNDEFINED, indicator),
+            Err(StreamError::NoRoom) => (NO_ROOM, 0),
+        };
+        StreamFed {
+            stream: r.stream,
+            kind,
             indicator,
-        },
-        Fed::NoRoom => StreamFed {
-            stream,
-            kind: NO_ROOM,
-            indicator: 0,
-        },
+        }
     }
 }
 
@@ -98,10 +90,7 @@ fn fed(stream: H4Stream, answer: Fed) -> StreamFed
 pub fn wegrulsta_stream_feed(stream: H4Stream, buffer: &mut [u8], bytes: &[u8]) -> StreamFed
     ensures { Feeds stream buffer.old bytes.now result buffer.new }
 {
-    let r = stream.feed(buffer, bytes);
-    let answer = r.answer;
-    let left = r.stream;
-    fed(left, answer)
+    stream.feed(buffer, bytes).into()
 }
 
 // The octets of the packet of the last feed that starts at index at of the buffer, 0 where there is none.

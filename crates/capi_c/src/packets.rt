@@ -3,7 +3,7 @@ ghost use Rattle.std.specs.Prelude.{◌≡◌, min, length};
 ghost use Rattle.hci.specs.Packet as packet;
 ghost use Rattle.hci.specs.Opcode.{opcode_of, is_async};
 ghost use Rattle.hci.specs.Bits.{with_bit};
-ghost use Rattle.hci.specs.Read.{parse_command, acl_parts};
+ghost use Rattle.hci.specs.Read.{parse_command, parse_acl};
 ghost use Rattle.capi.specs.Packets.{Writes, WritesEvent, HasBit, command_of, acl_of};
 
 use capi::{MaskHas, ReadAcl, ReadCommand, Wrote};
@@ -89,7 +89,7 @@ pub extern "C" fn wegrulsta_read_command(packet: &[u8]) -> ReadCommand
 // Reads a packet as ACL data; octets past its length are ignored.
 #[unsafe(no_mangle)]
 pub extern "C" fn wegrulsta_read_acl(packet: &[u8]) -> ReadAcl
-    ensures { result ≡ acl_of (acl_parts packet.now) }
+    ensures { result ≡ acl_of (parse_acl packet.now) }
 {
     capi::wegrulsta_read_acl(packet)
 }

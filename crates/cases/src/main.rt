@@ -2,9 +2,8 @@
 // back. The file stdout has document 01's numbers.
 #![tactic(auto)]
 
-use hci::{Has, Written};
+use hci::{MaskError, WriteError};
 use profile::ControllerRow;
-use state::Controller;
 use std::io;
 
 fn main(rt: HostRuntime) -> io::Result<()> {
@@ -17,16 +16,6 @@ fn main(rt: HostRuntime) -> io::Result<()> {
     bit(&rt)
 }
 
-fn write(rt: &impl Print, text: &[u8]) -> io::Result<()> {
-    rt.write_all(text)
-}
-
-fn line(rt: &impl Print, text: &[u8], number: u8) -> io::Result<()> {
-    write(rt, text)?;
-    rt.print(number)?;
-    write(rt, b"\n")
-}
-
 // The bench's profile.
 fn bench() -> ControllerRow {
     records::bench_profile()
@@ -37,7 +26,7 @@ fn limits_and_rows(rt: &impl Print) -> io::Result<()> {
     let mut small = bench();
     small.acl_len = 26;
     let r = controller::drop_in_flight(small, s, 0);
-    line(rt, b"acl_len 26: ", r.number)?;
+    println!(rt; "acl_len 26: {}", r.number)?;
     let mut pool = [0u8; 64];
     let mut out = [0u8; 71];
     let reset = [0x01, 0x03, 0x0C, 0x00];
@@ -53,44 +42,41 @@ fn limits_and_rows(rt: &impl Print) -> io::Result<()> {
         &reset,
         &mut out,
     );
-    line(rt, b"a row with answer 3: ", q.number)
+    println!(rt; "a row with answer 3: {}", q.number)
 }
 
 fn together_and_pool(rt: &impl Print) -> io::Result<()> {
     let mut s = controller::default_state();
     s.links.count = 17;
     let r = controller::drop_in_flight(bench(), s, 0);
-    line(rt, b"a state with 17 links: ", r.number)?;
+    println!(rt; "a state with 17 links: {}", r.number)?;
     let t = controller::default_state();
     let pool = [0u8; 63];
     let mut out = [0u8; 64];
     let q = controller::take_transmit(bench(), t, &pool, 1, 1, &mut out);
-    line(rt, b"a pool of 63 octets: ", q.number)
+    println!(rt; "a pool of 63 octets: {}", q.number)
 }
 
 fn event_room(rt: &impl Print) -> io::Result<()> {
     let s = controller::default_state();
     let mut out = [0u8; 70];
     let r = controller::completed(bench(), s, 1, 1, &mut out);
-    line(rt, b"an event buffer of 70 octets: ", r.number)?;
+    println!(rt; "an event buffer of 70 octets: {}", r.number)?;
     let mut more = [0u8; 71];
     let q = controller::completed(bench(), s, 1, 1, &mut more);
-    line(rt, b"one of 71: ", q.number)
+    println!(rt; "one of 71: {}", q.number)
 }
 
 // Sixteen links are open: a seventeenth handle is refused, one that is open is not.
 fn seventeenth_handle(rt: &impl Print) -> io::Result<()> {
     let mut s = controller::default_state();
-    let mut handle: u16 = 1;
-    while handle < 17 {
-        let r = controller::open_connection(bench(), s, handle, 24, 0, 42);
-        s = r.state;
-        handle += 1;
+    for handle in 1..17 {
+        s = controller::open_connection(bench(), s, handle, 24, 0, 42).state;
     }
     let last = controller::open_connection(bench(), s, 17, 24, 0, 42);
-    line(rt, b"a 17th handle: ", last.number)?;
+    println!(rt; "a 17th handle: {}", last.number)?;
     let again = controller::open_connection(bench(), s, 16, 24, 0, 42);
-    line(rt, b"the 16th again: ", again.number)
+    println!(rt; "the 16th again: {}", again.number)
 }
 
 // A packet that waits, and a buffer of less octets than it has.
@@ -114,39 +100,32 @@ fn packet_room(rt: &impl Print) -> io::Result<()> {
     );
     let mut five = [0u8; 5];
     let t = controller::take_transmit(bench(), q.state, &pool, 1, 1, &mut five);
-    line(rt, b"a packet of 6 octets into 5: ", t.number)
+    println!(rt; "a packet of 6 octets into 5: {}", t.number)
 }
 
 fn writers(rt: &impl Print) -> io::Result<()> {
     let params = [0u8; 256];
     let mut out = [0u8; 258];
-    line(
-        rt,
-        b"an event of 256 parameter octets: ",
-        number(hci::event(0x0E, &params, &mut out)),
-    )?;
+    let long = number(hci::event(0x0E, &params, &mut out));
+    println!(rt; "an event of 256 parameter octets: {long}")?;
     let mut few = [0u8; 257];
-    line(
-        rt,
-        b"one of 255 into 257 octets: ",
-        number(hci::event(0x0E, &params[..255], &mut few)),
-    )
+    let wide = number(hci::event(0x0E, &params[..255], &mut few));
+    println!(rt; "one of 255 into 257 octets: {wide}")
 }
 
 // Document 01's number of a writer's answer.
-fn number(written: Written) -> u8 {
+fn number(written: Result<usize, WriteError>) -> u8 {
     match written {
-        Written::Octets(_) => 0,
-        Written::TooLong => 8,
-        Written::NoRoom => 9,
+        Ok(_) => 0,
+        Err(WriteError::TooLong) => 8,
+        Err(WriteError::NoRoom) => 9,
     }
 }
 
 fn bit(rt: &impl Print) -> io::Result<()> {
-    let has = hci::mask_has(0, 64);
-    match has {
-        Has::Yes => line(rt, b"bit 64: ", 0),
-        Has::No => line(rt, b"bit 64: ", 0),
-        Has::NoSuchBit => line(rt, b"bit 64: ", 10),
-    }
+    let refused = match hci::mask_has(0, 64) {
+        Ok(_) => 0,
+        Err(MaskError::NoSuchBit) => 10,
+    };
+    println!(rt; "bit 64: {refused}")
 }

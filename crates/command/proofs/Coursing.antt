@@ -1,19 +1,17 @@
 -- The course of a command, from the tests that the code makes. For the functions of `course`.
+use Rattle.std.specs.Prelude.{Some, None, Ok, Err, ◌==◌, position}
 use mathlib.Core.Path.{◌≡◌, refl, sym, ap, ◌∙◌}
-use Prim.Native.Nat.{ℕ, ◌/◌, ◌<◌}
-use mathlib.Core.Bool.{Bool, true, false, true≢false, cond}
-use lib.Dec.{ltb}
+use Prim.Native.Nat.{ℕ, ◌<◌}
+use mathlib.Core.Bool.{Bool, true, false, cond}
 use lib.ListN.{get_or}
-use borrow.Author.Tests.{eq-eqb, ne_eqb, ltb-true, ltb-false}
-use borrow.Table.Steps.{cases}
 use Rattle.state.specs.State.{Model}
-use Rattle.commands.specs.Table.{Row, fits, no_row, find, sized, rows}
-use Rattle.commands.specs.Command.{family_of, other_family, modelled, listed_row, rowless, by_row}
+use Rattle.lists.proofs.Search.{position_some, position_none}
+use Rattle.commands.specs.Table.{Row, fits, no_row, find, sized, rows, opcodes}
+use Rattle.commands.specs.Command.{family_of, other_family, modelled, listed_row, by_row}
 use Rattle.commands.proofs.Tables.{place_in, find_at, size_past}
 use Rattle.dispatch.specs.declared.Part.{Part}
 use Rattle.dispatch.specs.Parts.{rows_of}
-use Rattle.command.specs.declared.course.Reason.TheVariants.{UnknownRow, NoRow, Vendor, OtherFamily, Unmodeled, BadParameters}
-use Rattle.command.specs.declared.course.Course.TheVariants.{Answered, Carried}
+use Rattle.command.specs.declared.course.Reason.TheVariants.{OtherFamily, Unmodeled, BadParameters}
 use Rattle.command.specs.Calling.{differs, Courses}
 
 -- the size of a row stands at the opcode's place
@@ -27,39 +25,31 @@ unfolding other_family
 family_told {now = now} op e d t m same = rw same (ap (λ (x : ℕ). differs x now) (sym e) ∙ sym d ∙ t)
 
 module _ (op now n : ℕ) where
-  pub unknown_row : Courses 2 op now n (Answered UnknownRow)
-  unfolding by_row
-  unknown_row g m long same = refl
-
-  -- no row
-  pub vendor : op / 1024 ≡ 0x3F → Courses 3 op now n (Answered Vendor)
-  unfolding by_row rowless
-  vendor e g m long same = rw (eq-eqb (op / 1024) 0x3F e)
-
-  pub no_row_lem : (op / 1024 ≡ 0x3F → ⊥) → Courses 3 op now n (Answered NoRow)
-  unfolding by_row rowless
-  no_row_lem e g m long same = rw (ne_eqb (op / 1024) 0x3F e)
-
   -- a listed row, by the test of the family
   pub other_family_lem : (modeled : Bool) → ((m : Model) → m.settings.advertising_family ≡ now → other_family op m ≡ true)
-      → Courses (cond modeled 0 1) op now n (Answered OtherFamily)
+      → Courses (cond modeled 0 1) op now n (Err OtherFamily)
   unfolding by_row listed_row
   other_family_lem true told g m long same = rw (told m same)
   other_family_lem false told g m long same = rw (told m same)
 
   module _ (told : (m : Model) → m.settings.advertising_family ≡ now → other_family op m ≡ false) where
-    pub unmodeled : Courses 1 op now n (Answered Unmodeled)
+    pub unmodeled : Courses 1 op now n (Err Unmodeled)
     unfolding by_row listed_row
     unmodeled g m long same = rw (told m same)
 
-    pub bad_parameters : sized op rows n ≡ false → Courses 0 op now n (Answered BadParameters)
+    pub bad_parameters : sized op rows n ≡ false → Courses 0 op now n (Err BadParameters)
     unfolding by_row listed_row modelled
     bad_parameters missized g m long same = rw (told m same, long, missized)
 
-    pub carried_out : (part : Part) → find op rows ≡ find op (rows_of part) → sized op rows n ≡ true → Courses 0 op now n (Carried part)
+    pub carried_out : (part : Part) → find op rows ≡ find op (rows_of part) → sized op rows n ≡ true → Courses 0 op now n (Ok part)
     unfolding by_row listed_row modelled
     carried_out part row rightly = (row, rightly, λ g m long same. rw (told m same, long, rightly))
 
--- a place where a size fits is one of the table
-pub within_table : (place n : ℕ) → fits (get_or rows place no_row).size n ≡ true → place < 71
-within_table place n h = cases (ltb place 71) (λ e. ltb-true place 71 e) (λ e. absurd (true≢false (sym h ∙ size_past place n (ltb-false place 71 e))))
+-- ---- the opcode's place, as `place_of` gives it
+
+pub placed : (op place : ℕ) → Some place ≡ position (λ x. x == op) opcodes → (place ≡ place_in op rows) × (place < 71)
+placed op place e = position_some _ opcodes place (sym e)
+
+-- no place: the table has no such row, so no size fits
+pub unplaced : (op n : ℕ) → None ≡ position (λ x. x == op) opcodes → sized op rows n ≡ false
+unplaced op n e = sized_at op _ n refl ∙ size_past _ n (position_none _ opcodes (sym e))

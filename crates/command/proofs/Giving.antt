@@ -13,23 +13,22 @@ use Rattle.profile.specs.declared.ControllerRow.{ControllerRow}
 use Rattle.answers.specs.declared.Answer.{Answer}
 use Rattle.answers.specs.declared.Form.{Form}
 use Rattle.answers.specs.declared.Form.TheVariants.{Complete, Status, Silent}
-use Rattle.answers.specs.Answers.{AnswerModel, AnswerHolds, answer_of, octets_of}
+use Rattle.answers.specs.Answers.{AnswerModel, answer_of, octets_of}
 use Rattle.state.specs.State.{Model, view, answers_of, count_command}
 use Rattle.state.specs.Holding.{StateHolds}
 use Rattle.state.specs.declared.Controller.{Controller}
-use Rattle.state.specs.declared.Masks.{Masks}
 use Rattle.state.specs.declared.Counters.{Counters}
 use Rattle.state.specs.declared.Settings.{Settings}
 use Rattle.state.specs.declared.Recent.{Recent}
 use Rattle.commands.specs.Checks.{within}
-use Rattle.commands.specs.Parts.{with_masks, with_settings, with_counters, with_recent}
-use Rattle.commands.specs.Put.{put_masks, put_settings, put_recent}
-use Rattle.commands.specs.Outcome.{Outcome, outcome, done, given, Gives, Ready}
+use Rattle.commands.specs.Parts.{with_settings, with_counters, with_recent}
+use Rattle.commands.specs.Put.{put_settings, put_recent, noted_in}
+use Rattle.commands.specs.Outcome.{Outcome, outcome, given, Gives, Ready}
 use Rattle.commands.specs.Table.{find, sized, rows}
 use Rattle.commands.specs.Command.{family_of, with_family, remembered, after_answer}
 use Rattle.commands.specs.Leaves.{Shaped}
 use Rattle.commands.proofs.TableLeaves.{rows_modest}
-use Rattle.commands.proofs.Giving.{holds_counters, holds_settings, holds_recent, gives_masks}
+use Rattle.commands.proofs.Giving.{holds_counters, holds_settings, holds_recent}
 use Rattle.dispatch.specs.declared.Part.{Part}
 use Rattle.dispatch.specs.Parts.{rows_of}
 use Rattle.dispatch.proofs.Halves.{row_fits, row_gives}
@@ -106,6 +105,9 @@ gave {k = k} {op = op} same held end = record {
 
 -- ---- a command that is carried out, from the part of the state that its row changes
 
+abbrev told_in : Controller → Noted → Told
+told_in z n = record { number = 0; state = z; written = n.written }
+
 pub shaped_given : {k : ControllerRow} {address : List ℕ} {random : ℕ} {p : List ℕ} → ShapedProfile k → length address ≡ 6
     → Shaped (given k address random p)
 shaped_given shaped long = record { commands = shaped.commands; features = shaped.features; states = shaped.states; address = long }
@@ -132,11 +134,12 @@ module _ {k : ControllerRow} {op : ℕ} {s u : Controller} {part : Part} {p out 
     }
 
     -- all that the command began with is noted, so the part may as well be put into the state before it
-    pub carried : (n : Noted) → told_of (put (begun_from op s)) n ≡ told_of (put s) n → {after : List ℕ}
+    pub carried : (n : Noted) → noted_in n.counters n.settings n.recent (put (begun_from op s)) ≡ noted_in n.counters n.settings n.recent (put s)
+        → {after : List ℕ}
         → FinishedFrom (put u).counters (put u).settings (put u).recent k.num_command_packets op (answer_of a) out n after
         → Gave (carried_by (given k address random p) op) k op s out (told_of (put s) n) after
     carried n same end =
-        rw (ap (λ (z : Controller). told_of (put z) n) begun ∙ same)
+        rw (ap (λ (z : Controller). told_of (put z) n) begun ∙ ap (λ (z : Controller). told_in z n) same)
         at (gave {f = carried_by (given k address random p) op} {s = s} (λ size pool. listed.viewed size pool ∙ ap ((find op rows).does (given k address random p)) (begun_view op s begun size pool)) listed.held (end (put u) refl refl refl))
 
 -- a command that changes no part puts none
@@ -146,10 +149,3 @@ no_part s = s
 -- an address for the commands that tell none
 abbrev pub no_address : List ℕ
 no_address = 0 ∷ 0 ∷ 0 ∷ 0 ∷ 0 ∷ 0 ∷ []
-
--- what a command gives that sets the masks to x and succeeds
-pub sets_masks : {f : Model → Outcome} {k : ControllerRow} {u : Controller} {x : Masks} {a : Answer} → Ready u k
-    → (answer_of a ≡ done 0) × AnswerHolds a
-    → ((size : ℕ) (pool : List ℕ) → f (view u size pool) ≡ outcome (done 0) (with_masks x (view u size pool)))
-    → Gives f k u (put_masks x u) a
-sets_masks ready answer same = gives_masks (refl, record { same = answer.0; shaped = answer.1 }) same ready.holds

@@ -1,6 +1,6 @@
 -- How a command is answered, and what the functions of `command` count on and give. `Rattle.commands.specs.Command` says what a
 -- command gives as a whole; here the same is said by its course. For `on_packet`.
-use Rattle.std.specs.Prelude.{◌≡◌, ℕ, ◌≤◌, List, [], ◌∷◌, ◌++◌, Bool, true, cond, not, ◌&&◌, eqb, length, get_or}
+use Rattle.std.specs.Prelude.{◌≡◌, ℕ, ◌≤◌, List, [], ◌∷◌, ◌++◌, Result, Ok, Err, Bool, true, cond, not, ◌&&◌, eqb, length, get_or}
 use Rattle.octets.specs.Octets.{le, Put}
 use Rattle.signed.specs.Signed.{octet_of}
 use Rattle.profile.specs.declared.ControllerRow.{ControllerRow}
@@ -27,8 +27,6 @@ use Rattle.command.specs.declared.Noted.{Noted}
 use Rattle.command.specs.declared.Told.{Told}
 use Rattle.command.specs.declared.course.Reason.{Reason}
 use Rattle.command.specs.declared.course.Reason.TheVariants.{UnknownRow, NoRow, Vendor, OtherFamily, Unmodeled, BadParameters}
-use Rattle.command.specs.declared.course.Course.{Course}
-use Rattle.command.specs.declared.course.Course.TheVariants.{Answered, Carried}
 
 -- ---- parts of the state
 
@@ -96,13 +94,14 @@ settings_for BadParameters op settings = family_in op settings
 abbrev pub carried_by : Given → ℕ → Model → Outcome
 carried_by g op m = (find op rows).does g (with_family op m)
 
--- ---- the course: what the row's answer, the family of the state and the number of parameters make of the command
+-- ---- the course: what the row's answer, the family of the state and the number of parameters make of the command. It is carried
+-- out and changes a part of the state, or is answered at once for a reason
 
-abbrev pub Courses : ℕ → ℕ → ℕ → ℕ → Course → Type 0
-Courses answer op now n (Answered reason) =
+abbrev pub Courses : ℕ → ℕ → ℕ → ℕ → Result Part Reason → Type 0
+Courses answer op now n (Err reason) =
     (g : Given) (m : Model) → length g.params ≡ n → m.settings.advertising_family ≡ now
     → by_row g answer op m ≡ answered_by reason g.profile op m
-Courses answer op now n (Carried part) =
+Courses answer op now n (Ok part) =
     (find op rows ≡ find op (rows_of part))
     × (sized op rows n ≡ true)
     × ((g : Given) (m : Model) → length g.params ≡ n → m.settings.advertising_family ≡ now → by_row g answer op m ≡ carried_by g op m)

@@ -19,50 +19,44 @@ pub enum Reason {
     BadParameters,
 }
 
-// A command that is carried out changes that part of the state.
-#[derive(Clone, Copy)]
-pub enum Course {
-    Answered(Reason),
-    Carried(Part),
-}
-
-// By the row's answer to an opcode, with `now` the advertising family of the state and n parameter octets.
-pub fn course_of(answering: Answering, op: u16, now: u8, n: usize) -> Course
+// The part of the state that a command changes where it is carried out, or why it is not: by the row's answer to its opcode, with
+// `now` the advertising family of the state and n parameter octets.
+#[tactic(auto, unfolding(commands::specs::Command::by_row))]
+pub fn course_of(answering: Option<Answering>, op: u16, now: u8, n: usize) -> Result<Part, Reason>
     ensures { Courses (answer_number answering) op now n result }
 {
     match answering {
-        Answering::Unknown => Course::Answered(Reason::UnknownRow),
-        Answering::NoRow => rowless(op),
-        Answering::Modeled => listed_row(true, op, now, n),
-        Answering::Unmodeled => listed_row(false, op, now, n),
+        Some(Answering::Unknown) => Err(Reason::UnknownRow),
+        None => Err(rowless(op)),
+        Some(Answering::Modeled) => listed_row(true, op, now, n),
+        Some(Answering::Unmodeled) => listed_row(false, op, now, n),
     }
 }
 
 // An opcode without a row: a vendor's succeeds.
-fn rowless(op: u16) -> Course
-    ensures { (now n : ℕ) → Courses 3 op now n result }
+#[tactic(auto, unfolding(commands::specs::Command::by_row, commands::specs::Command::rowless))]
+fn rowless(op: u16) -> Reason
+    ensures { (now n : ℕ) → Courses 3 op now n (Err result) }
 {
     if op / 1024 == hci::OGF_VENDOR {
-        return Course::Answered(Reason::Vendor);
+        return Reason::Vendor;
     }
-    Course::Answered(Reason::NoRow)
+    Reason::NoRow
 }
 
 // The family is tested before anything of the command; then the table of commands decides. An opcode or a length that the table
 // does not have is Invalid HCI Command Parameters.
-fn listed_row(modeled: bool, op: u16, now: u8, n: usize) -> Course
+fn listed_row(modeled: bool, op: u16, now: u8, n: usize) -> Result<Part, Reason>
     ensures { Courses (cond modeled 0 1) op now n result }
 {
-    let family = family::family_of(op);
-    if family::other_family(family, now) {
-        return Course::Answered(Reason::OtherFamily);
+    if family::other_family(family::family_of(op), now) {
+        return Err(Reason::OtherFamily);
     }
     if !modeled {
-        return Course::Answered(Reason::Unmodeled);
+        return Err(Reason::Unmodeled);
     }
-    let place = commands::place_of(op);
-    if !commands::fits(place, n) {
-        return Course::Answered(Reason::BadParameters);
+    match commands::place_of(op) {
+        Some(place) if commands::fits(place, n) => Ok(dispatch::part_at(place)),
+        _ => Err(Reason::BadParameters),
     }
-    Course::Carried(dispatch::part_at(place))
 }

@@ -7,23 +7,20 @@ ghost use Rattle.commands.specs.Command.{family_of, refused};
 ghost use Rattle.command.specs.Calling.{differs, family_in};
 
 use answers::Answer;
+use hci::status::COMMAND_DISALLOWED;
 use profile::ControllerRow;
 use state::{EXTENDED, LEGACY, Settings};
 
-// The advertising family of an opcode: LEGACY, EXTENDED or 0.
+// The advertising family of an opcode: LEGACY, EXTENDED or 0. A number and no enum, as it goes into the octet of the state that C
+// hands in.
+#[tactic(auto, unfolding(commands::specs::Command::family_of))]
 pub fn family_of(op: u16) -> u8
     ensures { result ≡ family_of op }
 {
     if commands::within(0x2006, 0x200D, op) {
         return LEGACY;
     }
-    if commands::within(0x2036, 0x204A, op) {
-        return EXTENDED;
-    }
-    if op == 0x205C {
-        return EXTENDED;
-    }
-    if op == 0x205D {
+    if commands::within(0x2036, 0x204A, op) || matches!(op, 0x205C | 0x205D) {
         return EXTENDED;
     }
     0
@@ -33,13 +30,7 @@ pub fn family_of(op: u16) -> u8
 pub fn other_family(family: u8, now: u8) -> bool
     ensures { result ≡ differs family now }
 {
-    if family == 0 {
-        return false;
-    }
-    if now == 0 {
-        return false;
-    }
-    now != family
+    family != 0 && now != 0 && now != family
 }
 
 // The settings with a command's family set, where it has one.
@@ -66,6 +57,7 @@ pub fn acknowledged(by_status: bool, code: u8) -> Answer
 }
 
 // Command Status for an opcode that is acknowledged so, else Command Complete.
+#[tactic(auto, unfolding(commands::specs::Command::refused))]
 pub fn refuse(op: u16, code: u8) -> Answer
     ensures { Answers (refused op code) result }
 {
@@ -77,9 +69,7 @@ pub fn disallowed(profile: ControllerRow, op: u16) -> Answer
     ensures { Answers (cond (eqb op 0x2007) (complete (0x0C ∷ octet_of profile.adv_tx_power ∷ [])) (refused op 0x0C)) result }
 {
     if op == 0x2007 {
-        let power = profile.adv_tx_power;
-        let octet = signed::octet_of(power);
-        return answers::complete(&[0x0C, octet]);
+        return answers::complete(&[COMMAND_DISALLOWED, signed::octet_of(profile.adv_tx_power)]);
     }
-    refuse(op, 0x0C)
+    refuse(op, COMMAND_DISALLOWED)
 }

@@ -21,19 +21,13 @@ pub fn answered(
     requires { Ready s profile × (71 ≤ length out.old) }
     ensures { Gave (answered_by reason profile op) profile op s out.old (told_of s result) out.new }
 {
-    let answer = answer_for(reason, profile, op);
-    let counters = counters_for(reason, s.counters);
-    let settings = settings_for(reason, s.settings, op);
-    let mut t = s;
-    t.counters = counters;
-    t.settings = settings;
     record::finished(
-        t.counters,
-        t.settings,
-        t.recent,
+        counters_for(reason, s.counters),
+        settings_for(reason, s.settings, op),
+        s.recent,
         profile.num_command_packets,
         op,
-        answer,
+        answer_for(reason, profile, op),
         out,
     )
 }
@@ -58,12 +52,8 @@ fn counters_for(reason: Reason, counters: Counters) -> Counters
 {
     let more = counters.count_command();
     match reason {
-        Reason::UnknownRow => more.count_unknown(),
-        Reason::NoRow => more.count_unknown(),
-        Reason::Vendor => more,
-        Reason::OtherFamily => more,
-        Reason::Unmodeled => more,
-        Reason::BadParameters => more,
+        Reason::UnknownRow | Reason::NoRow => more.count_unknown(),
+        _ => more,
     }
 }
 
@@ -72,11 +62,7 @@ fn settings_for(reason: Reason, settings: Settings, op: u16) -> Settings
     ensures { result ≡ settings_for reason op settings }
 {
     match reason {
-        Reason::UnknownRow => settings,
-        Reason::NoRow => settings,
-        Reason::Vendor => settings,
-        Reason::OtherFamily => settings,
-        Reason::Unmodeled => family::with_family(settings, op),
-        Reason::BadParameters => family::with_family(settings, op),
+        Reason::Unmodeled | Reason::BadParameters => family::with_family(settings, op),
+        _ => settings,
     }
 }

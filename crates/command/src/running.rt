@@ -1,12 +1,12 @@
-// A command that is carried out, by the part of the state that it changes: nothing, a list, a link, or everything. Each function
-// counts the command and sets its family first, and remembers and writes the answer last.
+// A command that is carried out: it changes nothing, or the part of the state that the type parameter names. Both functions count
+// the command and set its family first, and remember and write the answer last.
 ghost use Rattle.commands.specs.Outcome.{given};
-ghost use Rattle.commands.specs.Put.{put_accept_list, put_resolving_list, put_links};
 ghost use Rattle.std.specs.Prelude.{List, ℕ};
 ghost use Rattle.dispatch.specs.declared.Part.TheVariants as part;
 ghost use Rattle.command.specs.Calling.{CanCarry, Gave, carried_by, told_of};
 
-use crate::{AcceptListChanged, LinksChanged, Noted, ResolvingListChanged, Restarted, record};
+use crate::{Changed, Noted, record};
+use dispatch::CommandPart;
 use profile::ControllerRow;
 use state::Controller;
 
@@ -36,109 +36,32 @@ pub fn read(
     )
 }
 
-// A command that changes the accept list.
-pub fn change_accept_list(
+// A command that changes a part of the state.
+pub fn carried<P: CommandPart>(
     s: Controller,
     profile: ControllerRow,
     op: u16,
     p: &[u8],
     out: &mut [u8],
-) -> AcceptListChanged
-    requires { CanCarry s profile op part.AcceptList p.now out.old }
-    ensures { (address : List ℕ) (random : ℕ) → Gave (carried_by (given profile address random p.now) op) profile op s out.old (told_of (put_accept_list result.accept_list s) result.noted) out.new }
+) -> Changed<P>
+    requires { CanCarry s profile op P.part p.now out.old }
+    ensures { (address : List ℕ) (random : ℕ) → Gave (carried_by (given profile address random p.now) op)
+        profile op s out.old (told_of (P.StatePart.put result.part s) result.noted) out.new }
 {
-    let mut t = record::begun(s, op);
-    let r = dispatch::accept_list(t, profile, op, p);
-    let answer = r.answer;
-    let accept_list = r.accept_list;
-    t.accept_list = accept_list;
+    let begun = record::begun(s, op);
+    let r = P::carry_out(begun, profile, op, p);
+    let t = r.part.put(begun);
     let noted = record::finished(
         t.counters,
         t.settings,
         t.recent,
         profile.num_command_packets,
         op,
-        answer,
+        r.answer,
         out,
     );
-    AcceptListChanged { noted, accept_list }
-}
-
-// A command that changes the resolving list.
-pub fn change_resolving_list(
-    s: Controller,
-    profile: ControllerRow,
-    op: u16,
-    p: &[u8],
-    out: &mut [u8],
-) -> ResolvingListChanged
-    requires { CanCarry s profile op part.ResolvingList p.now out.old }
-    ensures { (address : List ℕ) (random : ℕ) → Gave (carried_by (given profile address random p.now) op) profile op s out.old (told_of (put_resolving_list result.resolving_list s) result.noted) out.new }
-{
-    let mut t = record::begun(s, op);
-    let r = dispatch::resolving_list(t, profile, op, p);
-    let answer = r.answer;
-    let resolving_list = r.resolving_list;
-    t.resolving_list = resolving_list;
-    let noted = record::finished(
-        t.counters,
-        t.settings,
-        t.recent,
-        profile.num_command_packets,
-        op,
-        answer,
-        out,
-    );
-    ResolvingListChanged {
+    Changed {
         noted,
-        resolving_list,
+        part: r.part,
     }
-}
-
-// A command that changes a link.
-pub fn change_links(
-    s: Controller,
-    profile: ControllerRow,
-    op: u16,
-    p: &[u8],
-    out: &mut [u8],
-) -> LinksChanged
-    requires { CanCarry s profile op part.Links p.now out.old }
-    ensures { (address : List ℕ) (random : ℕ) → Gave (carried_by (given profile address random p.now) op) profile op s out.old (told_of (put_links result.links s) result.noted) out.new }
-{
-    let mut t = record::begun(s, op);
-    let r = dispatch::links(t, profile, op, p);
-    let answer = r.answer;
-    let links = r.links;
-    t.links = links;
-    let noted = record::finished(
-        t.counters,
-        t.settings,
-        t.recent,
-        profile.num_command_packets,
-        op,
-        answer,
-        out,
-    );
-    LinksChanged { noted, links }
-}
-
-// Reset.
-pub fn reset(s: Controller, profile: ControllerRow, op: u16, p: &[u8], out: &mut [u8]) -> Restarted
-    requires { CanCarry s profile op part.Everything p.now out.old }
-    ensures { (address : List ℕ) (random : ℕ) → Gave (carried_by (given profile address random p.now) op) profile op s out.old (told_of result.state result.noted) out.new }
-{
-    let r = dispatch::everything(record::begun(s, op));
-    let answer = r.answer;
-    let state = r.state;
-    let noted = record::finished(
-        state.counters,
-        state.settings,
-        state.recent,
-        profile.num_command_packets,
-        op,
-        answer,
-        out,
-    );
-    Restarted { noted, state }
 }

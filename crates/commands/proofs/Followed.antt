@@ -4,11 +4,7 @@ use mathlib.Core.Path.{◌≡◌, ap, ◌∙◌}
 use mathlib.Core.List.{List}
 use Prim.Native.Nat.{ℕ}
 use Rattle.answers.specs.declared.Answer.{Answer}
-use Rattle.answers.specs.Answers.{answer_of, followed, AnswerHolds}
-
--- r is the answer a with these octets behind it
-abbrev pub Follows : List ℕ → Answer → Answer → Type 0
-Follows octets a r = (answer_of r ≡ followed octets (answer_of a)) × (AnswerHolds a → AnswerHolds r)
+use Rattle.answers.specs.Answers.{answer_of, followed, Follows}
 
 -- octets that are equal serve as well
 pub follows : {xs ys : List ℕ} {a r : Answer} → Follows xs a r → xs ≡ ys → Follows ys a r

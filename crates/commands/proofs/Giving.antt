@@ -5,7 +5,7 @@ use Prim.Native.Nat.{ℕ, ◌≤◌}
 use mathlib.Core.List.{List}
 use Rattle.profile.specs.declared.ControllerRow.{ControllerRow}
 use Rattle.answers.specs.declared.Answer.{Answer}
-use Rattle.answers.specs.Answers.{AnswerModel, AnswerHolds, answer_of, followed}
+use Rattle.answers.specs.Answers.{AnswerModel, AnswerHolds, answer_of, followed, Follows}
 use Rattle.filters.specs.declared.accept.AcceptList.{AcceptList}
 use Rattle.filters.specs.declared.resolving.ResolvingList.{ResolvingList}
 use Rattle.links.specs.declared.Connection.{Connection}
@@ -26,7 +26,6 @@ use Rattle.state.specs.declared.Controller.{Controller}
 use Rattle.commands.specs.Parts.{with_masks, with_links}
 use Rattle.commands.specs.Put.{put_masks, put_settings, put_advertising, put_scanning, put_accept_list, put_resolving_list, put_links, put_counters, put_recent}
 use Rattle.commands.specs.Outcome.{Outcome, outcome, done, Answers, Gives}
-use Rattle.commands.proofs.Followed.{Follows}
 
 -- ---- an answer alone
 

@@ -1,6 +1,7 @@
 -- What a command leaves: the building blocks. The events behind an answer, the answers, an outcome that changes no link and no
 -- mask, one that changes a connection but not its handle, and the tests and cases that definitions are made of. For the laws of
 -- each family.
+use Rattle.std.specs.Prelude.{Option, Some, None}
 use mathlib.Core.Path.{◌≡◌, refl, ◌∙◌}
 use Prim.Native.Nat.{ℕ, ◌≤◌}
 use native.Mathlib.Omega.{arith}
@@ -13,8 +14,6 @@ use Rattle.hci.specs.Packet.{event, meta_params}
 use Rattle.lists.proofs.Update.{map_update}
 use Rattle.answers.specs.Answers.{AnswerModel, complete, status, silent, followed}
 use Rattle.links.specs.declared.Connection.{Connection}
-use Rattle.links.specs.declared.FoundConnection.{FoundConnection}
-use Rattle.links.specs.declared.FoundConnection.TheVariants as found
 use Rattle.links.specs.Links.{changed, has_handle}
 use Rattle.links.specs.Holding.{handle_of}
 use Rattle.state.specs.State.{Model, le_event_enabled}
@@ -90,10 +89,10 @@ pub modest_cond : (b : Bool) {x y : AnswerModel} → Modest x → Modest y → M
 modest_cond true h k = h
 modest_cond false h k = k
 
-pub modest_link : (f : FoundConnection) {none : AnswerModel} {some : Connection → AnswerModel} → Modest none
+pub modest_link : (f : Option Connection) {none : AnswerModel} {some : Connection → AnswerModel} → Modest none
     → ((c : Connection) → Modest (some c)) → Modest (at_link f none some)
-modest_link found.Nothing h k = h
-modest_link (found.Found c) h k = k c
+modest_link None h k = h
+modest_link (Some c) h k = k c
 
 -- ---- outcomes
 
@@ -136,10 +135,10 @@ module _ {s : Bool} {m : Model} where
   leaves_cond true h k = h
   leaves_cond false h k = k
 
-  pub leaves_link : (f : FoundConnection) {none : Outcome} {some : Connection → Outcome} → Leaves s m none
+  pub leaves_link : (f : Option Connection) {none : Outcome} {some : Connection → Outcome} → Leaves s m none
       → ((c : Connection) → Leaves s m (some c)) → Leaves s m (at_link f none some)
-  leaves_link found.Nothing h k = h
-  leaves_link (found.Found c) h k = k c
+  leaves_link None h k = h
+  leaves_link (Some c) h k = k c
 
   -- one connection changed, its handle kept
   pub leaves_changed : {a : AnswerModel} (h : ℕ) (f : Connection → Connection) → ((c : Connection) → (f c).handle ≡ c.handle)

@@ -1,6 +1,6 @@
 -- The table of commands: the code's two arrays are its first two columns, and an opcode is found where its place says. For the code
 -- of the table, for `dispatch` and for `command`.
-use mathlib.Core.Path.{◌≡◌, refl, sym}
+use mathlib.Core.Path.{◌≡◌, refl, sym, ◌∙◌}
 use Prim.Native.Nat.{ℕ, ◌≤◌, ◌<◌}
 use native.Mathlib.Omega.{arith}
 use mathlib.Core.List.{List, [], ◌∷◌, map}
@@ -9,6 +9,7 @@ use lib.Dec.{eqb, ltb}
 use lib.ListN.{get_or, get_or-map, get_or-eq_default}
 use borrow.Author.Tests.{ltb-true, ne_eqb}
 use borrow.Table.Steps.{cases}
+use Rattle.std.proofs.lemmas.List.{get_or_default}
 use Rattle.lists.specs.Lists.{first_at, all}
 use Rattle.lists.proofs.Tests.{all_at}
 use Rattle.commands.specs.Table.{Size, octets, any, never, fits, Row, opcode_of, no_row, find, rows}
@@ -38,9 +39,11 @@ unfolding all
 all_told = refl
 
 -- the size at a place, as the code tests it
-pub size_at : (i n : ℕ) → i < 71 → fits (get_or rows i no_row).size n ≡ cond (eqb (get_or (map row_number rows) i 0) 256) true (eqb n (get_or (map row_number rows) i 0))
-size_at i n h =
-    rw (get_or-map row_number rows i no_row) (told_fits (get_or rows i no_row).size n (all_at (λ r. told r.size) rows i no_row all_told h))
+pub size_at : (i n number : ℕ) → number ≡ get_or (map row_number rows) i number → i < 71
+    → fits (get_or rows i no_row).size n ≡ cond (eqb number 256) true (eqb n number)
+size_at i n number e h =
+    let same : number ≡ row_number (get_or rows i no_row) = e ∙ get_or_default (map row_number rows) i number 0 h ∙ get_or-map row_number rows i no_row in
+    rw same (told_fits (get_or rows i no_row).size n (all_at (λ r. told r.size) rows i no_row all_told h))
 
 -- past the table no size fits
 pub size_past : (i n : ℕ) → 71 ≤ i → fits (get_or rows i no_row).size n ≡ false
@@ -48,7 +51,7 @@ size_past i n h = rw (get_or-eq_default rows no_row h)
 
 -- ---- an opcode in the table
 
--- the place of an opcode in a table
+-- the place of an opcode in a table, or how many rows there are
 abbrev pub place_in : ℕ → List Row → ℕ
 place_in op l = first_at (λ x. eqb x op) (map opcode_of l)
 

@@ -1,10 +1,9 @@
 -- Document 01's marked cases about commands, as one proposition: `MarkedCases`. It is proved as `marked_cases` in
 -- `proofs/Marked.antt`. g is what a command is given, of which each case names the parameter octets; its row is modelled (0).
-use Rattle.std.specs.Prelude.{◌≡◌, ℕ, ◌+◌, ◌*◌, List, [], ◌∷◌, true, false, length}
+use Rattle.std.specs.Prelude.{◌≡◌, ℕ, ◌+◌, ◌*◌, List, [], ◌∷◌, Some, Err, true, false, length}
 use Rattle.hci.specs.Read.{parse_command}
-use Rattle.hci.specs.declared.read.CommandRead.TheVariants.{ShortParameters}
+use Rattle.hci.specs.declared.read.ReadError.TheVariants.{ShortBody}
 use Rattle.links.specs.declared.Connection.{Connection}
-use Rattle.links.specs.declared.FoundConnection.TheVariants as found
 use Rattle.links.specs.Look.{connection_of}
 use Rattle.state.specs.State.{Model}
 use Rattle.commands.specs.Status.{success, invalid_parameters}
@@ -19,11 +18,11 @@ pub record MarkedCases : Type 0 where
   pub greatest_of19 : connection_params_valid 6 19 1 10 ≡ true
   -- 0x0C7C on interval 24, latency 0: 3 accepted
   pub timeout_of3 : (g : Given) (low high : ℕ) (m : Model) (c : Connection) → g.params ≡ (low ∷ high ∷ 3 ∷ 0 ∷ [])
-      → connection_of (low + 256 * high) m.links.connections ≡ found.Found c → c.interval ≡ 24 → c.latency ≡ 0
+      → connection_of (low + 256 * high) m.links.connections ≡ Some c → c.interval ≡ 24 → c.latency ≡ 0
       → (command g 0 0x0C7C m).answer ≡ done_handle success (low + 256 * high)
   -- 2: 0x12
   pub timeout_of2 : (g : Given) (low high : ℕ) (m : Model) (c : Connection) → g.params ≡ (low ∷ high ∷ 2 ∷ 0 ∷ [])
-      → connection_of (low + 256 * high) m.links.connections ≡ found.Found c → c.interval ≡ 24 → c.latency ≡ 0
+      → connection_of (low + 256 * high) m.links.connections ≡ Some c → c.interval ≡ 24 → c.latency ≡ 0
       → (command g 0 0x0C7C m).answer ≡ done_handle invalid_parameters (low + 256 * high)
   -- 0x204D with 0xFB00: accepted
   pub compensation_fb00 : (g : Given) (m : Model) → g.params ≡ (0x00 ∷ 0xFB ∷ 0x00 ∷ 0xFB ∷ [])
@@ -41,4 +40,4 @@ pub record MarkedCases : Type 0 where
       → m.settings.advertising_family ≡ 0 → (command g 0 0x2008 m).answer ≡ done invalid_parameters
   -- length octet 3 with two octets: the packet is not read as a command, so there is no event
   pub short_of_parameters : (low high first second : ℕ)
-      → parse_command (0x01 ∷ low ∷ high ∷ 3 ∷ first ∷ second ∷ []) ≡ ShortParameters
+      → parse_command (0x01 ∷ low ∷ high ∷ 3 ∷ first ∷ second ∷ []) ≡ Err ShortBody

@@ -1,14 +1,12 @@
 -- What a command gives: its answer, and the state after it. A command's definition is a function of what it is given and of
 -- the state; `Gives` and `Answers` say that the code gives what a definition does. For every crate that has commands.
-use Rattle.std.specs.Prelude.{◌≡◌, ℕ, List, [], ◌∷◌}
+use Rattle.std.specs.Prelude.{◌≡◌, ℕ, List, [], ◌∷◌, Option, Some, None}
 use Rattle.octets.specs.Octets.{le}
 use Rattle.profile.specs.declared.ControllerRow.{ControllerRow}
 use Rattle.profile.specs.Profile.{Limits}
 use Rattle.answers.specs.declared.Answer.{Answer}
 use Rattle.answers.specs.Answers.{AnswerModel, AnswerHolds, answer_of, complete}
 use Rattle.links.specs.declared.Connection.{Connection}
-use Rattle.links.specs.declared.FoundConnection.{FoundConnection}
-use Rattle.links.specs.declared.FoundConnection.TheVariants as found
 use Rattle.state.specs.State.{Model, view}
 use Rattle.state.specs.Holding.{StateHolds}
 use Rattle.state.specs.declared.Controller.{Controller}
@@ -38,9 +36,9 @@ abbrev pub done_handle : ℕ → ℕ → AnswerModel
 done_handle code handle = complete (code ∷ le 2 handle)
 
 -- by cases: no link has the handle, or the connection that has it
-abbrev pub at_link : {A : Type 0} → FoundConnection → A → (Connection → A) → A
-at_link found.Nothing none some = none
-at_link (found.Found c) none some = some c
+abbrev pub at_link : {A : Type 0} → Option Connection → A → (Connection → A) → A
+at_link None none some = none
+at_link (Some c) none some = some c
 
 -- the code's answer is the definition's
 pub record Answers (expected : AnswerModel) (a : Answer) : Type 0 where

@@ -127,3 +127,7 @@ put_recent x s = record {
   counters = s.counters;
   recent = x;
 }
+
+-- what is noted of every command
+abbrev pub noted_in : Counters → Settings → Recent → Controller → Controller
+noted_in counters settings recent s = put_recent recent (put_settings settings (put_counters counters s))

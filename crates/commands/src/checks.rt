@@ -11,54 +11,40 @@ use profile::ControllerRow;
 pub fn within(least: u16, most: u16, x: u16) -> bool
     ensures { result ≡ is_within least most x }
 {
-    if x < least {
-        return false;
-    }
-    x <= most
+    least <= x && x <= most
 }
 
 // Connection parameters (section 7.8.18).
+#[tactic(auto, unfolding(crate::specs::Checks::connection_params_valid))]
 pub fn connection_params_valid(min: u16, max: u16, latency: u16, timeout: u16) -> bool
     ensures { result ≡ connection_params_valid min max latency timeout }
 {
-    if !within(0x0006, 0x0C80, min) {
-        return false;
-    }
-    if !within(0x0006, 0x0C80, max) {
-        return false;
-    }
-    if min > max {
-        return false;
-    }
-    if latency > 0x01F3 {
-        return false;
-    }
-    if !within(0x000A, 0x0C80, timeout) {
-        return false;
-    }
-    outlasts(max, latency, timeout)
+    within(0x0006, 0x0C80, min)
+        && within(0x0006, 0x0C80, max)
+        && min <= max
+        && latency <= 0x01F3
+        && within(0x000A, 0x0C80, timeout)
+        && outlasts(max, latency, timeout)
 }
 
 // Whether the timeout is longer than (1 + latency) * max, strictly.
 fn outlasts(max: u16, latency: u16, timeout: u16) -> bool
     ensures { result ≡ ltb ((1 + latency) * max) (timeout * 4) }
 {
-    let longest = (1 + (latency as u32)) * (max as u32);
-    let limit = (timeout as u32) * 4;
-    longest < limit
+    let longest = (1 + u32::from(latency)) * u32::from(max);
+    longest < u32::from(timeout) * 4
 }
 
 // The longest data packets of a link (sections 7.8.33 and 7.8.35).
+#[tactic(auto, unfolding(crate::specs::Checks::data_length_valid))]
 pub fn data_length_valid(octets: u16, time: u16) -> bool
     ensures { result ≡ data_length_valid octets time }
 {
-    if !within(0x001B, 0x00FB, octets) {
-        return false;
-    }
-    within(0x0148, 0x4290, time)
+    within(0x001B, 0x00FB, octets) && within(0x0148, 0x4290, time)
 }
 
 // The PHYs that the profile's features name, as a bit set.
+#[tactic(auto, unfolding(crate::specs::Checks::phys))]
 pub fn phys(profile: ControllerRow) -> u8
     ensures { result ≡ phys_of profile }
 {
@@ -73,37 +59,12 @@ pub fn long_at(p: &[u8]) -> u64
     requires { length p.now ≡ 8 }
     ensures { result ≡ number_at 8 p.now 0 }
 {
-    let low = half(octets::word_at(p, 0), octets::word_at(p, 2));
-    let high = half(octets::word_at(p, 4), octets::word_at(p, 6));
-    low + 4294967296 * high
-}
-
-// Two words, the low one first.
-fn half(low: u16, high: u16) -> u64
-    ensures { result ≡ low + 65536 * high }
-{
-    (low as u64) + 65536 * (high as u64)
+    u64::from_le_bytes([p[0], p[1], p[2], p[3], p[4], p[5], p[6], p[7]])
 }
 
 // The eight octets of a number, low octet first.
 pub fn long_octets(x: u64) -> [u8; 8]
     ensures { result ≡ le 8 x }
 {
-    let x1 = x / 256;
-    let x2 = x1 / 256;
-    let x3 = x2 / 256;
-    let x4 = x3 / 256;
-    let x5 = x4 / 256;
-    let x6 = x5 / 256;
-    let x7 = x6 / 256;
-    [
-        (x % 256) as u8,
-        (x1 % 256) as u8,
-        (x2 % 256) as u8,
-        (x3 % 256) as u8,
-        (x4 % 256) as u8,
-        (x5 % 256) as u8,
-        (x6 % 256) as u8,
-        (x7 % 256) as u8,
-    ]
+    x.to_le_bytes()
 }

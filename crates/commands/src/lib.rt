@@ -1,6 +1,7 @@
 // What the commands share: the answer beside the state, a part of the state put back, the events that follow an answer, the
 // tests of parameters that more than one command makes, and the table of opcodes and lengths. `specs/` holds the definitions of
-// all commands; their code is in the crates `known`, `air`, `link`, `privacy` and `test_and_power`. For these, and for `command` above them.
+// all commands; their code is in the crates `known`, `air`, `link`, `privacy` and `test_and_power`. For these, and for `command`
+// above them.
 #![tactic(auto)]
 
 mod checks;
@@ -10,10 +11,8 @@ mod table;
 
 pub use checks::{connection_params_valid, data_length_valid, long_at, long_octets, phys, within};
 pub use events::{
-    followed_by_connection_failed, followed_by_encryption_change, followed_by_event, followed_by_le,
+    followed_by_connection_failed, followed_by_encryption_change, followed_by_event,
+    followed_by_le, followed_by_update,
 };
-pub use parts::{
-    AcceptAnswered, AdvertisingAnswered, Answered, LinksAnswered, ResolvingAnswered,
-    ScanningAnswered, SettingsAnswered, list_answered, settings_answered,
-};
+pub use parts::{Answered, StatePart};
 pub use table::{fits, place_of};

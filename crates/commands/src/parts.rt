@@ -1,71 +1,160 @@
-// The answer of a command beside the one part of the state that the command changes, which is smaller to hand back than the whole, or,
-// for Reset, beside the state.
-ghost use Rattle.std.specs.Prelude.{◌≡◌};
-ghost use Rattle.commands.specs.Outcome.{Answers, done};
+// The answer of a command beside the one part of the state that the command changes, which is smaller to hand back than the
+// whole, or, for Reset, beside the state; and how a part is put back into the state.
+ghost use Rattle.std.specs.Prelude.{◌≡◌, refl};
+ghost use Rattle.state.specs.declared.Controller.{Controller};
+ghost use Rattle.state.specs.declared.Counters.{Counters};
+ghost use Rattle.state.specs.declared.Recent.{Recent};
+ghost use Rattle.state.specs.declared.Settings.{Settings};
+ghost use Rattle.answers.specs.Answers.{status};
+ghost use Rattle.commands.specs.Outcome.{Answers, done, done_handle};
+ghost use Rattle.commands.specs.Put.{put_masks, put_settings, put_advertising, put_scanning, put_accept_list, put_resolving_list, put_links, put_counters, noted_in};
 
 use answers::Answer;
 use filters::{AcceptList, ResolvingList};
 use links::Links;
-use state::{Advertising, Controller, Scanning, Settings};
+use state::{Advertising, Controller, Masks, Scanning, Settings};
 
 #[derive(Clone, Copy)]
-pub struct Answered {
-    pub state: Controller,
+pub struct Answered<P> {
+    pub part: P,
     pub answer: Answer,
 }
 
-#[derive(Clone, Copy)]
-pub struct SettingsAnswered {
-    pub settings: Settings,
-    pub answer: Answer,
-}
+impl<P> Answered<P> {
+    // The part as it is to be, refused or not, and a status.
+    pub fn done(part: P, code: u8) -> Answered<P>
+        ensures { (result.part ≡ part) × Answers (done code) result.answer }
+    {
+        Answered {
+            part,
+            answer: answers::done(code),
+        }
+    }
 
-#[derive(Clone, Copy)]
-pub struct AdvertisingAnswered {
-    pub advertising: Advertising,
-    pub answer: Answer,
-}
+    // The same with a status and a handle.
+    pub fn done_handle(part: P, code: u8, handle: u16) -> Answered<P>
+        ensures { (result.part ≡ part) × Answers (done_handle code handle) result.answer }
+    {
+        Answered {
+            part,
+            answer: answers::done_handle(code, handle),
+        }
+    }
 
-#[derive(Clone, Copy)]
-pub struct ScanningAnswered {
-    pub scanning: Scanning,
-    pub answer: Answer,
-}
-
-#[derive(Clone, Copy)]
-pub struct AcceptAnswered {
-    pub accept_list: AcceptList,
-    pub answer: Answer,
-}
-
-#[derive(Clone, Copy)]
-pub struct ResolvingAnswered {
-    pub resolving_list: ResolvingList,
-    pub answer: Answer,
-}
-
-#[derive(Clone, Copy)]
-pub struct LinksAnswered {
-    pub links: Links,
-    pub answer: Answer,
-}
-
-// Settings as they are to be, refused or not, and a status.
-pub fn settings_answered(settings: Settings, code: u8) -> SettingsAnswered
-    ensures { (result.settings ≡ settings) × Answers (done code) result.answer }
-{
-    SettingsAnswered {
-        settings,
-        answer: answers::done(code),
+    // The same by Command Status.
+    pub fn status(part: P, code: u8) -> Answered<P>
+        ensures { (result.part ≡ part) × Answers (status code) result.answer }
+    {
+        Answered {
+            part,
+            answer: answers::status(code),
+        }
     }
 }
 
-// The resolving list as it is to be, refused or not, and a status.
-pub fn list_answered(list: ResolvingList, code: u8) -> ResolvingAnswered
-    ensures { (result.resolving_list ≡ list) × Answers (done code) result.answer }
-{
-    ResolvingAnswered {
-        resolving_list: list,
-        answer: answers::done(code),
+// A part of the state: `put x s` is the state s with x in place of its own. What is noted of every command, counters, settings
+// and last answers, is put in after it, so it does not matter which of these the state had before.
+pub trait StatePart: Copy {
+    ghost put: { Self → Controller → Controller };
+
+    fn put(self, s: Controller) -> Controller
+        ensures { result ≡ put self s };
+
+    ghost noted_after: { (x : Self) (s : Controller) (counters before : Counters) (settings family : Settings) (recent : Recent) → noted_in counters settings recent (put x (put_settings family (put_counters before s))) ≡ noted_in counters settings recent (put x s) };
+}
+
+impl StatePart for Masks {
+    ghost put = { put_masks };
+
+    fn put(self, s: Controller) -> Controller {
+        Controller { masks: self, ..s }
     }
+
+    ghost noted_after = { λ x s c b t f r. refl };
+}
+
+impl StatePart for Settings {
+    ghost put = { put_settings };
+
+    fn put(self, s: Controller) -> Controller {
+        Controller {
+            settings: self,
+            ..s
+        }
+    }
+
+    ghost noted_after = { λ x s c b t f r. refl };
+}
+
+impl StatePart for Advertising {
+    ghost put = { put_advertising };
+
+    fn put(self, s: Controller) -> Controller {
+        Controller {
+            advertising: self,
+            ..s
+        }
+    }
+
+    ghost noted_after = { λ x s c b t f r. refl };
+}
+
+impl StatePart for Scanning {
+    ghost put = { put_scanning };
+
+    fn put(self, s: Controller) -> Controller {
+        Controller {
+            scanning: self,
+            ..s
+        }
+    }
+
+    ghost noted_after = { λ x s c b t f r. refl };
+}
+
+impl StatePart for AcceptList {
+    ghost put = { put_accept_list };
+
+    fn put(self, s: Controller) -> Controller {
+        Controller {
+            accept_list: self,
+            ..s
+        }
+    }
+
+    ghost noted_after = { λ x s c b t f r. refl };
+}
+
+impl StatePart for ResolvingList {
+    ghost put = { put_resolving_list };
+
+    fn put(self, s: Controller) -> Controller {
+        Controller {
+            resolving_list: self,
+            ..s
+        }
+    }
+
+    ghost noted_after = { λ x s c b t f r. refl };
+}
+
+impl StatePart for Links {
+    ghost put = { put_links };
+
+    fn put(self, s: Controller) -> Controller {
+        Controller { links: self, ..s }
+    }
+
+    ghost noted_after = { λ x s c b t f r. refl };
+}
+
+// Reset gives all of the state.
+impl StatePart for Controller {
+    ghost put = { λ t _. t };
+
+    fn put(self, _s: Controller) -> Controller {
+        self
+    }
+
+    ghost noted_after = { λ x s c b t f r. refl };
 }

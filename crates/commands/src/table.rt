@@ -1,7 +1,6 @@
 // The table of opcodes and of how many parameter octets each takes (`param_len` of the source), in the order of the tables of
 // `specs/Table.antt`.
-ghost use Rattle.std.specs.Prelude.{◌≡◌, true, cond, eqb, get_or};
-ghost use Rattle.lists.specs.Lists.{first_at};
+ghost use Rattle.std.specs.Prelude.{◌≡◌, ◌==◌, true, cond, eqb, get_or, position};
 ghost use Rattle.commands.specs.Table.{opcodes, rows, no_row};
 ghost use Rattle.commands.specs.Table.{fits as size_fits};
 
@@ -14,16 +13,17 @@ const OPCODES: [u16; 71] = [
     0x201C, 0x201D, 0x201E, 0x201F, 0x2033, 0x2034, 0x203A, 0x203B, 0x204B, 0x204C, 0x204D,
 ];
 
-// How many parameter octets, 256 where the command looks at their number itself.
+// How many parameter octets, 256 where the command looks at their number itself: as an array of `Option<u8>` this is a line for
+// each row, and no plainer.
 const SIZES: [u16; 71] = [
     3, 2, 8, 0, 3, 1, 7, 256, 8, 2, 4, 0, 0, 0, 0, 2, 8, 0, 0, 6, 15, 0, 32, 32, 1, 7, 2, 25, 0, 0,
     0, 7, 7, 14, 5, 2, 2, 32, 0, 28, 18, 2, 14, 3, 6, 0, 4, 39, 7, 0, 0, 7, 7, 1, 2, 0, 2, 3, 7, 8,
     0, 1, 3, 0, 3, 4, 0, 0, 0, 0, 4,
 ];
 
-// The place of an opcode in the table, 71 where it has none.
-pub fn place_of(op: u16) -> usize
-    ensures { result ≡ first_at (λ x. eqb x op) opcodes }
+// The place of an opcode in the table.
+pub fn place_of(op: u16) -> Option<usize>
+    ensures { result ≡ position (λ x. x == op) opcodes }
 {
     hci::first_opcode(&OPCODES, op)
 }
@@ -32,18 +32,14 @@ pub fn place_of(op: u16) -> usize
 pub fn fits(place: usize, n: usize) -> bool
     ensures { result ≡ size_fits (get_or rows place no_row).size n }
 {
-    if 71 <= place {
-        return false;
+    match SIZES.get(place) {
+        Some(size) => size_fits(*size, n),
+        None => false,
     }
-    let sizes = SIZES;
-    size_fits(sizes[place], n)
 }
 
 fn size_fits(size: u16, n: usize) -> bool
     ensures { result ≡ cond (eqb size 256) true (eqb n size) }
 {
-    if size == 256 {
-        return true;
-    }
-    n == (size as usize)
+    size == 256 || n == usize::from(size)
 }

@@ -19,25 +19,26 @@ use Rattle.notices.proofs.Telling.{Alone}
 use Rattle.calls.specs.Packets.{Reply}
 use Rattle.calls.specs.Calls.{Call, held, first_no, questions, told, reply_to, taken_by}
 use Rattle.calls.specs.Gives.{PoolLeft, GivesAnyPool, plain, events, profile_of}
-use Rattle.controller.specs.Asked.{CanTell}
+use Rattle.controller.specs.declared.refusal.Refusal.{Refusal}
+use Rattle.controller.specs.Asked.{number_of, CanTell}
+use Rattle.controller.proofs.Asking.{some}
 
 -- n is what the call's questions give, whatever it does not take
 abbrev pub Asks : ControllerRow → Call → Controller → List ℕ → ℕ → Type 0
 Asks k c s out n =
     (pool opcodes answers bits : List ℕ) → n ≡ first_no (questions (profile_of k opcodes answers bits) c (held s pool) out)
 
-pub gives_refused : {k : ControllerRow} {c : Call} {s : Controller} {out : List ℕ} {n : ℕ} → Asks k c s out n → (n ≡ 0 → ⊥)
-    → GivesAnyPool k c s s (events n 0 out out)
-gives_refused asks h pool opcodes answers bits = record {
-  number = asks pool opcodes answers bits;
-  refused = λ p. record { same = refl; buffer = refl; nothing = (refl, refl) };
-  accepted = λ e. absurd (h e);
-}
-
--- the same of what a function gives that puts a refusal together
-pub gives_refused_as : {k : ControllerRow} {c : Call} {s t : Controller} {out : List ℕ} {n number written : ℕ} → Asks k c s out n
-    → (n ≡ 0 → ⊥) → (number ≡ n) × (t ≡ s) × (written ≡ 0) → GivesAnyPool k c s t (events number written out out)
-gives_refused_as asks h same = rw (same.0, same.1, same.2) (gives_refused asks h)
+-- a refused call changes nothing
+pub gives_refused : {k : ControllerRow} {c : Call} {s t : Controller} {out : List ℕ} {number written : ℕ} (refusal : Refusal)
+    → Asks k c s out (number_of refusal) → (number ≡ number_of refusal) × (t ≡ s) × (written ≡ 0)
+    → GivesAnyPool k c s t (events number written out out)
+gives_refused refusal asks same =
+    rw (same.0, same.1, same.2)
+    (λ pool opcodes answers bits. record {
+      number = asks pool opcodes answers bits;
+      refused = λ p. record { same = refl; buffer = refl; nothing = (refl, refl) };
+      accepted = λ e. absurd (some refusal e);
+    })
 
 -- the call gives what the notice f tells, takes no packet and leaves the pool
 abbrev pub Notices : (Model → Outcome) → ControllerRow → Call → Controller → Controller → Type 0

@@ -1,5 +1,5 @@
 -- What a query promises: the answer of the definitions, or that of a refused query. For `queries`.
-use mathlib.Core.Path.{◌≡◌, refl, sym, ap, ◌∙◌}
+use mathlib.Core.Path.{◌≡◌, refl, ap}
 use Prim.Native.Nat.{ℕ}
 use mathlib.Core.List.{List}
 use mathlib.Core.Bool.{Bool, true, false, not}
@@ -13,17 +13,21 @@ use Rattle.state.specs.declared.Controller.{Controller}
 use Rattle.state.proofs.Holding.{passed, failed}
 use Rattle.calls.specs.Calls.{first_no}
 use Rattle.calls.specs.Gives.{Finds, FindsBitmap}
-use Rattle.controller.specs.Asked.{about_state}
+use Rattle.controller.specs.declared.refusal.Refusal.{Refusal}
+use Rattle.controller.specs.Asked.{number_of, about_state}
+use Rattle.controller.proofs.Asking.{some}
 
-module _ {A : Type 0} {k : ControllerRow} {s : Controller} {sought : Model → A} {none : A} {number : ℕ} where
+module _ {A : Type 0} {k : ControllerRow} {s : Controller} {sought : Model → A} {none : A} {held : Bool} (same : held ≡ state_holds s k) where
   -- a refused query
-  pub finds_none : number ≡ about_state k (state_holds s k) → (number ≡ 0 → ⊥) → Finds k s sought none number none
-  finds_none e told = record { asked = e; refused = λ p. refl; accepted = λ z. absurd (told z) }
+  pub finds_none : (refusal : Refusal) {number : ℕ} → number ≡ number_of refusal → number_of refusal ≡ about_state k held
+      → Finds k s sought none number none
+  finds_none refusal e asked =
+      rw e (record { asked = rw same at asked; refused = λ p. refl; accepted = λ z. absurd (some refusal z) })
 
   -- one that is answered
-  pub finds : {answer : A} → number ≡ about_state k (state_holds s k) → number ≡ 0 → ((size : ℕ) (pool : List ℕ) → answer ≡ sought (view s size pool))
+  pub finds : {answer : A} → 0 ≡ about_state k held → ((size : ℕ) (pool : List ℕ) → answer ≡ sought (view s size pool))
       → Finds k s sought none 0 answer
-  finds e z found = record { asked = sym z ∙ e; refused = λ p. absurd (omega arith); accepted = λ same. found }
+  finds asked found = record { asked = rw same at asked; refused = λ p. absurd (omega arith); accepted = λ z. found }
 
 -- the bit map, where the rows do not fit and where they do
 pub finds_no_bitmap : {opcodes answers bits : List ℕ} {fits : Bool} → fits ≡ rows_fit opcodes answers bits → not fits ≡ true

@@ -1,5 +1,6 @@
 -- What `on_packet` promises, by what the packet asks for: what the functions that it calls count on where questions 1 to 5 have the
 -- answer "yes", and the call's contract where one has "no" and where none has. For `packets`.
+use Rattle.std.specs.Prelude.{Result, Ok, Err}
 use mathlib.Core.Path.{◌≡◌, refl, sym, ap, ◌∙◌}
 use Prim.Native.Nat.{ℕ, ◌*◌, ◌≤◌}
 use mathlib.Core.Logic.{inl, inr}
@@ -20,8 +21,6 @@ use Rattle.commands.specs.Outcome.{given, Ready}
 use Rattle.dispatch.specs.declared.Part.{Part}
 use Rattle.command.specs.declared.Told.{Told}
 use Rattle.command.specs.declared.course.Reason.{Reason}
-use Rattle.command.specs.declared.course.Course.{Course}
-use Rattle.command.specs.declared.course.Course.TheVariants as course
 use Rattle.command.specs.Calling.{answered_by, carried_by, CanCarry, Gave}
 use Rattle.calls.specs.Calls.{on_packet, Held, held}
 use Rattle.calls.specs.Gives.{Accepted, Gives, events, profile_of}
@@ -31,19 +30,20 @@ use Rattle.receive.specs.declared.Task.TheVariants as task
 use Rattle.receive.specs.Receiving.{IsCommand, parameters_of, Quiet, Tasks, Delivers, put_delivered}
 use Rattle.receive.proofs.Carrying.{params_long, carries_none, carries_course}
 use Rattle.receive.proofs.Accepting.{accepted_command, accepted_data, accepted_nothing}
-use Rattle.controller.specs.Asked.{question, about_packet, CanReceive}
-use Rattle.controller.proofs.Asking.{first_yes}
+use Rattle.controller.specs.declared.refusal.Refusal.{Refusal}
+use Rattle.controller.specs.Asked.{number_of, question, about_packet, CanReceive}
+use Rattle.controller.proofs.Asking.{some, first_yes}
 
 -- questions 1 to 5 have the answer "yes"
-pub can_receive : (k : ControllerRow) (opcodes answers bits : List ℕ) (s : Controller) (pool out : List ℕ) {number : ℕ}
-    → number ≡ about_packet k opcodes answers bits (state_holds s k) (length pool) (length out) → number ≡ 0 → CanReceive s k opcodes answers pool out
-can_receive k opcodes answers bits s pool out e z =
+pub can_receive : (k : ControllerRow) (opcodes answers bits : List ℕ) (s : Controller) (pool out : List ℕ)
+    → 0 ≡ about_packet k opcodes answers bits (state_holds s k) (length pool) (length out) → CanReceive s k opcodes answers pool out
+can_receive k opcodes answers bits s pool out e =
     let least = k.acl_count * place_size k in
     let five = question 5 (leb 71 (length out)) ∷ [] in
     let four = question 4 (leb least (length pool)) ∷ five in
     let three = question 3 (state_holds s k) ∷ four in
     let two = question 2 (rows_fit opcodes answers bits) ∷ three in
-    let limits = first_yes 0 (within_limits k) two (sym e ∙ z) in
+    let limits = first_yes 0 (within_limits k) two (sym e) in
     let rows = first_yes 1 (rows_fit opcodes answers bits) three limits.1 in
     let holds = first_yes 2 (state_holds s k) four rows.1 in
     let places = first_yes 3 (leb least (length pool)) five holds.1 in
@@ -58,36 +58,37 @@ can_receive k opcodes answers bits s pool out e z =
     }
 
 -- the parameters of a command that was read whole
-parameters_whole : {opcodes answers p q : List ℕ} {family op : ℕ} {c : Course} → IsCommand opcodes answers family p op c
+parameters_whole : {opcodes answers p q : List ℕ} {family op : ℕ} {c : Result Part Reason} → IsCommand opcodes answers family p op c
     → q ≡ parameters_of (parse_command p) p → q ≡ parameters p
 parameters_whole c same = rw c.read at same
 
-module _ {k : ControllerRow} {opcodes answers bits address p : List ℕ} {random : ℕ} {s : Controller} {pool out : List ℕ} {number : ℕ} where
+module _ {k : ControllerRow} {opcodes answers bits address p : List ℕ} {random : ℕ} {s : Controller} {pool out : List ℕ} where
   -- one has "no"
-  pub receives_not : {r : Told} → number ≡ about_packet k opcodes answers bits (state_holds s k) (length pool) (length out) → (number ≡ 0 → ⊥)
-      → (r.number ≡ number) × (r.state ≡ s) × (r.written ≡ 0)
+  pub receives_not : {r : Told} (refusal : Refusal)
+      → number_of refusal ≡ about_packet k opcodes answers bits (state_holds s k) (length pool) (length out)
+      → (r.number ≡ number_of refusal) × (r.state ≡ s) × (r.written ≡ 0)
       → Gives (profile_of k opcodes answers bits) (on_packet address random p) (held s pool) (held r.state pool) (events r.number r.written out out)
-  receives_not e told same = record {
+  receives_not refusal e same = record {
     number = same.0 ∙ e;
     refused = λ h. record { same = ap (λ (x : Controller). held x pool) same.1; buffer = refl; nothing = (same.2, refl) };
-    accepted = λ z. absurd (told (sym same.0 ∙ z));
+    accepted = λ z. absurd (some refusal (sym same.0 ∙ z));
   }
 
 -- none has: what the packet asks for decides
-module _ {k : ControllerRow} {opcodes answers : List ℕ} (bits address : List ℕ) (random : ℕ) {p : List ℕ} {s : Controller} {pool out : List ℕ} {number : ℕ}
-    (asked : number ≡ about_packet k opcodes answers bits (state_holds s k) (length pool) (length out)) (none : number ≡ 0) where
+module _ {k : ControllerRow} {opcodes answers : List ℕ} (bits address : List ℕ) (random : ℕ) {p : List ℕ} {s : Controller} {pool out : List ℕ}
+    (asked : 0 ≡ about_packet k opcodes answers bits (state_holds s k) (length pool) (length out)) where
   accepted : {t : Held} {told n : ℕ} {after : List ℕ} → told ≡ 0
       → Accepted (profile_of k opcodes answers bits) (on_packet address random p) (held s pool) t (events 0 n out after)
       → Gives (profile_of k opcodes answers bits) (on_packet address random p) (held s pool) t (events told n out after)
-  accepted zero given = rw zero (record { number = sym none ∙ asked; refused = λ h. absurd (omega arith); accepted = λ e. given })
+  accepted zero given = rw zero (record { number = asked; refused = λ h. absurd (omega arith); accepted = λ e. given })
 
   pub gives_nothing : {r : Told} → Quiet p → (r.number ≡ 0) × (r.state ≡ s) × (r.written ≡ 0)
       → Gives (profile_of k opcodes answers bits) (on_packet address random p) (held s pool) (held r.state pool) (events r.number r.written out out)
   gives_nothing (inl other) same =
-      accepted same.0 (accepted_nothing other.0 other.1 (same.1, same.2) (can_receive k opcodes answers bits s pool out asked none).store.ready.holds)
+      accepted same.0 (accepted_nothing other.0 other.1 (same.1, same.2) (can_receive k opcodes answers bits s pool out asked).store.ready.holds)
   gives_nothing (inr (first, quiet)) same =
       accepted same.0
-      (accepted_command first (carries_none (quiet (profile_of k opcodes answers bits) address random) (same.1, same.2) (can_receive k opcodes answers bits s pool out asked none).store.ready.holds))
+      (accepted_command first (carries_none (quiet (profile_of k opcodes answers bits) address random) (same.1, same.2) (can_receive k opcodes answers bits s pool out asked).store.ready.holds))
 
   pub gives_data : {d : Delivered} {r : Told} {left : List ℕ} → octet p 0 ≡ 2
       → Delivers k p (held s pool) (held (put_delivered d s) left)
@@ -96,13 +97,13 @@ module _ {k : ControllerRow} {opcodes answers : List ℕ} (bits address : List �
   gives_data first does told = rw told.2 (accepted told.0 (accepted_data first told.1 does))
 
   module _ {op : ℕ} {r : Told} {after : List ℕ} where
-    pub gives_answered : {reason : Reason} → IsCommand opcodes answers s.settings.advertising_family p op (course.Answered reason)
+    pub gives_answered : {reason : Reason} → IsCommand opcodes answers s.settings.advertising_family p op (Err reason)
         → Gave (answered_by reason k op) k op s out r after
         → Gives (profile_of k opcodes answers bits) (on_packet address random p) (held s pool) (held r.state pool) (events r.number r.written out after)
     gives_answered {reason} c does =
         accepted does.number (accepted_command c.first (carries_course (λ h. answered_by reason h.profile op) c c.courses does))
 
-    pub gives_carried : {part : Part} {q : List ℕ} → IsCommand opcodes answers s.settings.advertising_family p op (course.Carried part)
+    pub gives_carried : {part : Part} {q : List ℕ} → IsCommand opcodes answers s.settings.advertising_family p op (Ok part)
         → q ≡ parameters_of (parse_command p) p → Gave (carried_by (given k address random q) op) k op s out r after
         → Gives (profile_of k opcodes answers bits) (on_packet address random p) (held s pool) (held r.state pool) (events r.number r.written out after)
     gives_carried c same does =
@@ -112,7 +113,7 @@ module _ {k : ControllerRow} {opcodes answers : List ℕ} (bits address : List �
 -- what a command that is carried out counts on
 pub can_carry : {k : ControllerRow} {opcodes answers p q out : List ℕ} {s : Controller} {op : ℕ} {part : Part} → Ready s k
     → length k.supported_commands ≡ 64 → length k.lmp_features ≡ 8 → length k.supported_states ≡ 8
-    → 71 ≤ length out → IsCommand opcodes answers s.settings.advertising_family p op (course.Carried part)
+    → 71 ≤ length out → IsCommand opcodes answers s.settings.advertising_family p op (Ok part)
     → q ≡ parameters_of (parse_command p) p → CanCarry s k op part q out
 can_carry {p = p} ready commands features states room c same = record {
   ready = ready;
@@ -130,8 +131,8 @@ module _ (opcodes answers : List ℕ) (family : ℕ) (p : List ℕ) {t : Task} (
   pub is_data : t ≡ task.Data → octet p 0 ≡ 2
   is_data e = rw e at told
 
-  pub is_answered : {op : ℕ} {reason : Reason} → t ≡ task.Answered op reason → IsCommand opcodes answers family p op (course.Answered reason)
+  pub is_answered : {op : ℕ} {reason : Reason} → t ≡ task.Answered op reason → IsCommand opcodes answers family p op (Err reason)
   is_answered e = rw e at told
 
-  pub is_carried : {op : ℕ} {part known : Part} → t ≡ task.Carried op part → part ≡ known → IsCommand opcodes answers family p op (course.Carried known)
+  pub is_carried : {op : ℕ} {part known : Part} → t ≡ task.Carried op part → part ≡ known → IsCommand opcodes answers family p op (Ok known)
   is_carried e same = rw same at (rw e at told)

@@ -1,8 +1,6 @@
 -- The controller's answers as C gets them: a struct with a number, read as the contract `Gives` (calls/specs/Gives.antt) and the
 -- queries speak of it. For readers of the calls' contracts.
-use Rattle.std.specs.Prelude.{ℕ, List, Bool, not, eqb}
-use Rattle.links.specs.declared.DisconnectReason.{DisconnectReason}
-use Rattle.links.specs.declared.DisconnectReason.TheVariants.{Reason, Nothing}
+use Rattle.std.specs.Prelude.{ℕ, List, Bool, not, eqb, unwrap_or}
 use Rattle.links.specs.Look.{terminating_of}
 use Rattle.profile.specs.declared.ControllerRow.{ControllerRow}
 use Rattle.state.specs.State.{Model}
@@ -32,9 +30,5 @@ abbrev pub is_random : ℕ → Bool
 is_random kind = not (eqb kind 0)
 
 -- the reason of a Disconnect that waits for the peer, 0 where there is none: no such reason is 0
-abbrev pub reason_octet : DisconnectReason → ℕ
-reason_octet (Reason code) = code
-reason_octet Nothing = 0
-
 abbrev pub terminating_reason : ℕ → Model → ℕ
-terminating_reason h m = reason_octet (terminating_of h m.links.connections)
+terminating_reason h m = unwrap_or (terminating_of h m.links.connections) 0

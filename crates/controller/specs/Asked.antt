@@ -1,6 +1,7 @@
--- The questions that several calls begin with, as numbers: 0, or the number of the first "no"; and what receiving a
--- packet and writing a notice's event count on. For the inner functions of this crate; the contracts of the exported calls are `Rattle.calls.specs.Gives`.
-use Rattle.std.specs.Prelude.{◌≡◌, ℕ, ◌*◌, ◌≤◌, List, [], ◌∷◌, Bool, true, leb, length}
+-- The questions that several calls begin with, as numbers: 0, or the number of the first "no"; the refusals' numbers; and what
+-- receiving a packet and writing a notice's event count on. For the inner functions of this crate; the contracts of the exported
+-- calls are `Rattle.calls.specs.Gives`.
+use Rattle.std.specs.Prelude.{◌≡◌, ℕ, ◌*◌, ◌≤◌, List, [], ◌∷◌, Bool, true, leb, length, Result, Ok, Err}
 use Rattle.profile.specs.declared.ControllerRow.{ControllerRow}
 use Rattle.profile.specs.Profile.{within_limits, rows_fit, answers_fit}
 use Rattle.answers.specs.declared.Answer.{Answer}
@@ -9,6 +10,23 @@ use Rattle.state.specs.Holding.{place_size}
 use Rattle.state.specs.declared.Controller.{Controller}
 use Rattle.calls.specs.Calls.{Question, first_no}
 use Rattle.receive.specs.Receiving.{CanStore}
+use Rattle.controller.specs.declared.refusal.Refusal.{Refusal}
+use Rattle.controller.specs.declared.refusal.Refusal.TheVariants.{Profile, Rows, State, Pool, EventRoom, Handle, PacketRoom}
+
+-- which question has a "no"
+abbrev pub number_of : Refusal → ℕ
+number_of Profile = 1
+number_of Rows = 2
+number_of State = 3
+number_of Pool = 4
+number_of EventRoom = 5
+number_of Handle = 6
+number_of PacketRoom = 7
+
+-- of what a function gives that asks
+abbrev pub refusal_number : {A : Type 0} → Result A Refusal → ℕ
+refusal_number (Ok x) = 0
+refusal_number (Err refusal) = number_of refusal
 
 abbrev pub question : ℕ → Bool → Question
 question n answer = record { number = n; yes = answer }

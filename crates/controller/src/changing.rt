@@ -3,6 +3,7 @@ ghost use Rattle.calls.specs.Calls as call;
 ghost use Rattle.controller.specs.Answers.{Tells};
 
 use crate::{Told, questions, telling};
+use links::Timing;
 use profile::ControllerRow;
 use state::Controller;
 
@@ -19,25 +20,16 @@ pub fn wegrulsta_update(
     ensures { Tells profile (call.peer_update handle interval latency timeout) s out.old result out.new }
 {
     let held = state::holds(s, profile);
-    let number = questions::about_events(profile, held, out.len());
-    if number != 0 {
-        return Told {
-            number,
-            state: s,
-            written: 0,
-        };
+    if let Err(refusal) = questions::about_events(profile, held, out.len()) {
+        return refusal.told(s);
     }
-    let r = notices::peer_update(s, handle, interval, latency, timeout);
-    let links = r.links;
-    let mut t = s;
-    t.links = links;
-    let answer = r.answer;
-    let written = telling::tell(answer, out);
-    Told {
-        number: 0,
-        state: t,
-        written,
-    }
+    let timing = Timing {
+        interval,
+        latency,
+        timeout,
+    };
+    let r = notices::peer_update(s, handle, timing);
+    telling::heard(s, r, out)
 }
 
 // A central starts encryption.
@@ -52,23 +44,9 @@ pub fn wegrulsta_request_key(
     ensures { Tells profile (call.request_ltk handle random.now ediv) s out.old result out.new }
 {
     let held = state::holds(s, profile);
-    let number = questions::about_events(profile, held, out.len());
-    if number != 0 {
-        return Told {
-            number,
-            state: s,
-            written: 0,
-        };
+    if let Err(refusal) = questions::about_events(profile, held, out.len()) {
+        return refusal.told(s);
     }
     let r = notices::request_ltk(s, handle, *random, ediv);
-    let links = r.links;
-    let mut t = s;
-    t.links = links;
-    let answer = r.answer;
-    let written = telling::tell(answer, out);
-    Told {
-        number: 0,
-        state: t,
-        written,
-    }
+    telling::heard(s, r, out)
 }

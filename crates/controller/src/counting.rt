@@ -2,6 +2,7 @@
 ghost use Rattle.calls.specs.Calls as call;
 ghost use Rattle.controller.specs.Answers.{Tells, Changes};
 
+use crate::refusal::ACCEPTED;
 use crate::{Changed, Told, questions, telling};
 use profile::ControllerRow;
 use state::Controller;
@@ -17,25 +18,11 @@ pub fn wegrulsta_completed(
     ensures { Tells profile (call.completed handle count) s out.old result out.new }
 {
     let held = state::holds(s, profile);
-    let number = questions::about_events(profile, held, out.len());
-    if number != 0 {
-        return Told {
-            number,
-            state: s,
-            written: 0,
-        };
+    if let Err(refusal) = questions::about_events(profile, held, out.len()) {
+        return refusal.told(s);
     }
     let r = notices::completed(s, handle, count);
-    let links = r.links;
-    let mut t = s;
-    t.links = links;
-    let answer = r.answer;
-    let written = telling::tell(answer, out);
-    Told {
-        number: 0,
-        state: t,
-        written,
-    }
+    telling::heard(s, r, out)
 }
 
 // So many packets in flight are gone with their link; the host is told nothing.
@@ -43,16 +30,14 @@ pub fn wegrulsta_drop(profile: ControllerRow, s: Controller, count: u16) -> Chan
     ensures { Changes profile (call.drop_in_flight count) s result }
 {
     let held = state::holds(s, profile);
-    let number = questions::about_state(profile, held);
-    if number != 0 {
-        return Changed { number, state: s };
+    if let Err(refusal) = questions::about_state(profile, held) {
+        return refusal.changed(s);
     }
     let r = notices::drop_in_flight(s, count);
-    let links = r.links;
     let mut t = s;
-    t.links = links;
+    t.links = r.part;
     Changed {
-        number: 0,
+        number: ACCEPTED,
         state: t,
     }
 }

@@ -17,25 +17,11 @@ pub fn wegrulsta_remote_disconnect(
     ensures { Tells profile (call.remote_disconnect handle reason) s out.old result out.new }
 {
     let held = state::holds(s, profile);
-    let number = questions::about_events(profile, held, out.len());
-    if number != 0 {
-        return Told {
-            number,
-            state: s,
-            written: 0,
-        };
+    if let Err(refusal) = questions::about_events(profile, held, out.len()) {
+        return refusal.told(s);
     }
     let r = notices::remote_disconnect(s, handle, reason);
-    let links = r.links;
-    let mut t = s;
-    t.links = links;
-    let answer = r.answer;
-    let written = telling::tell(answer, out);
-    Told {
-        number: 0,
-        state: t,
-        written,
-    }
+    telling::heard(s, r, out)
 }
 
 // The peer acknowledged the host's Disconnect.
@@ -48,23 +34,9 @@ pub fn wegrulsta_complete_disconnect(
     ensures { Tells profile (call.complete_disconnect handle) s out.old result out.new }
 {
     let held = state::holds(s, profile);
-    let number = questions::about_events(profile, held, out.len());
-    if number != 0 {
-        return Told {
-            number,
-            state: s,
-            written: 0,
-        };
+    if let Err(refusal) = questions::about_events(profile, held, out.len()) {
+        return refusal.told(s);
     }
     let r = notices::complete_disconnect(s, handle);
-    let links = r.links;
-    let mut t = s;
-    t.links = links;
-    let answer = r.answer;
-    let written = telling::tell(answer, out);
-    Told {
-        number: 0,
-        state: t,
-        written,
-    }
+    telling::heard(s, r, out)
 }

@@ -16,6 +16,7 @@ mod opening;
 mod packets;
 mod queries;
 mod questions;
+mod refusal;
 mod taking;
 mod telling;
 
@@ -37,6 +38,7 @@ pub use queries::{
     wegrulsta_has_connection as has_connection, wegrulsta_row_bitmap as row_bitmap,
     wegrulsta_start as default_state, wegrulsta_terminating as terminating_reason,
 };
+pub use refusal::Refusal;
 use state::Controller;
 pub use taking::wegrulsta_take as take_transmit;
 

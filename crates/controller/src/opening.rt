@@ -3,7 +3,9 @@ ghost use Rattle.std.specs.Prelude.{◌≡◌};
 ghost use Rattle.calls.specs.Calls as call;
 ghost use Rattle.controller.specs.Answers.{Tells, Changes, is_random};
 
+use crate::refusal::{ACCEPTED, Refusal};
 use crate::{Changed, Told, questions, telling};
+use links::Timing;
 use profile::ControllerRow;
 use state::Controller;
 
@@ -19,34 +21,23 @@ pub fn wegrulsta_open(
     ensures { Changes profile (call.open_connection handle interval latency timeout) s result }
 {
     let held = state::holds(s, profile);
-    let number = questions::about_state(profile, held);
-    if number != 0 {
-        return Changed { number, state: s };
+    if let Err(refusal) = questions::about_state(profile, held) {
+        return refusal.changed(s);
     }
     if !links::can_open(s.links, handle) {
-        return Changed {
-            number: 6,
-            state: s,
-        };
+        return Refusal::Handle.changed(s);
     }
-    let r = notices::open_connection(s, handle, interval, latency, timeout);
-    let links = r.links;
+    let timing = Timing {
+        interval,
+        latency,
+        timeout,
+    };
+    let r = notices::open_connection(s, handle, timing);
     let mut t = s;
-    t.links = links;
+    t.links = r.part;
     Changed {
-        number: 0,
+        number: ACCEPTED,
         state: t,
-    }
-}
-
-// A refused request.
-fn refused(number: u8, s: Controller) -> Told
-    ensures { (result.number ≡ number) × (result.state ≡ s) × (result.written ≡ 0) }
-{
-    Told {
-        number,
-        state: s,
-        written: 0,
     }
 }
 
@@ -67,31 +58,19 @@ pub fn wegrulsta_accept(
         s out.old result out.new }
 {
     let held = state::holds(s, profile);
-    let number = questions::about_events(profile, held, out.len());
-    if number != 0 {
-        return refused(number, s);
+    if let Err(refusal) = questions::about_events(profile, held, out.len()) {
+        return refusal.told(s);
     }
     if !links::can_open(s.links, handle) {
-        return refused(6, s);
+        return Refusal::Handle.told(s);
     }
-    let r = notices::accept_connection(
-        s,
-        handle,
-        peer_type != 0,
-        *peer,
+    let timing = Timing {
         interval,
         latency,
         timeout,
-        sca,
-    );
-    let answer = r.answer;
-    let t = r.state;
-    let written = telling::tell(answer, out);
-    Told {
-        number: 0,
-        state: t,
-        written,
-    }
+    };
+    let r = notices::accept_connection(s, handle, peer_type != 0, *peer, timing, sca);
+    telling::heard(s, r, out)
 }
 
 // High duty cycle directed advertising ended unanswered.
@@ -99,21 +78,9 @@ pub fn wegrulsta_advertising_timeout(profile: ControllerRow, s: Controller, out:
     ensures { Tells profile (call.advertising_timeout) s out.old result out.new }
 {
     let held = state::holds(s, profile);
-    let number = questions::about_events(profile, held, out.len());
-    if number != 0 {
-        return Told {
-            number,
-            state: s,
-            written: 0,
-        };
+    if let Err(refusal) = questions::about_events(profile, held, out.len()) {
+        return refusal.told(s);
     }
     let r = notices::advertising_timeout(s);
-    let answer = r.answer;
-    let t = r.state;
-    let written = telling::tell(answer, out);
-    Told {
-        number: 0,
-        state: t,
-        written,
-    }
+    telling::heard(s, r, out)
 }

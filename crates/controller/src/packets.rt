@@ -8,14 +8,14 @@ ghost use Rattle.controller.specs.Answers.{told};
 
 use crate::Told;
 use crate::questions::about_packet;
-use command::{
-    answered, change_accept_list, change_links, change_resolving_list, read, reset,
-    set_advertising, set_masks, set_scanning, set_settings,
-};
+use crate::refusal::ACCEPTED;
+use command::{answered, carried, read};
 use dispatch::Part;
+use filters::{AcceptList, ResolvingList};
+use links::Links;
 use profile::ControllerRow;
 use receive::Task;
-use state::Controller;
+use state::{Advertising, Controller, Masks, Scanning, Settings};
 
 // A packet of the host. The rows are opcodes, how each is answered, and their bit numbers; address is the public address, and
 // random the number that Rand returns, lowest octet first.
@@ -37,37 +37,26 @@ pub fn wegrulsta_packet(
         (told result out.old out.new) }
 {
     let held = state::holds(s, profile);
-    let number = about_packet(profile, opcodes, answers, bits, held, pool.len(), out.len());
-    if number != 0 {
-        return unchanged(number, s);
+    let asked = about_packet(profile, opcodes, answers, bits, held, pool.len(), out.len());
+    if let Err(refusal) = asked {
+        return refusal.told(s);
     }
     let task = receive::task_of(opcodes, answers, s.settings.advertising_family, packet);
     let p = receive::parameters(packet);
     match task {
-        Task::Nothing => return unchanged(0, s),
+        Task::Nothing => return Told::unchanged(s, ACCEPTED),
         Task::Data => return receive::data(s, profile, pool, packet).told(s),
         Task::Answered(op, reason) => return answered(s, profile, reason, op, out).told(s),
         Task::Carried(op, part) => match part {
             Part::Nothing => return read(s, profile, *address, random, op, p, out).told(s),
-            Part::Masks => return set_masks(s, profile, op, p, out).told(s),
-            Part::Settings => return set_settings(s, profile, op, p, out).told(s),
-            Part::Advertising => return set_advertising(s, profile, op, p, out).told(s),
-            Part::Scanning => return set_scanning(s, profile, op, p, out).told(s),
-            Part::AcceptList => return change_accept_list(s, profile, op, p, out).told(s),
-            Part::ResolvingList => return change_resolving_list(s, profile, op, p, out).told(s),
-            Part::Links => return change_links(s, profile, op, p, out).told(s),
-            Part::Everything => return reset(s, profile, op, p, out).told(),
+            Part::Masks => return carried::<Masks>(s, profile, op, p, out).told(s),
+            Part::Settings => return carried::<Settings>(s, profile, op, p, out).told(s),
+            Part::Advertising => return carried::<Advertising>(s, profile, op, p, out).told(s),
+            Part::Scanning => return carried::<Scanning>(s, profile, op, p, out).told(s),
+            Part::AcceptList => return carried::<AcceptList>(s, profile, op, p, out).told(s),
+            Part::ResolvingList => return carried::<ResolvingList>(s, profile, op, p, out).told(s),
+            Part::Links => return carried::<Links>(s, profile, op, p, out).told(s),
+            Part::Everything => return carried::<Controller>(s, profile, op, p, out).told(s),
         },
-    }
-}
-
-// A call that changes nothing and tells nothing: refused, or a packet that asks for nothing.
-fn unchanged(number: u8, s: Controller) -> Told
-    ensures { (result.number ≡ number) × (result.state ≡ s) × (result.written ≡ 0) }
-{
-    Told {
-        number,
-        state: s,
-        written: 0,
     }
 }

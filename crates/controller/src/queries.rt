@@ -1,13 +1,12 @@
 // What a user may ask of a controller, and the state that it starts with. A refused query answers false, nothing or 0.
-ghost use Rattle.std.specs.Prelude.{◌≡◌, false};
+ghost use Rattle.std.specs.Prelude.{◌≡◌, None, false};
 ghost use Rattle.links.specs.Links as links;
 ghost use Rattle.links.specs.Look.{terminating_of};
-ghost use Rattle.links.specs.declared.DisconnectReason.TheVariants.{Nothing};
 ghost use Rattle.calls.specs.Gives.{Finds, FindsBitmap, Starts};
-ghost use Rattle.controller.specs.Answers.{reason_octet, terminating_reason};
+ghost use Rattle.controller.specs.Answers.{terminating_reason};
 
 use crate::questions;
-use links::DisconnectReason;
+use crate::refusal::{ACCEPTED, Refusal};
 use profile::ControllerRow;
 use state::Controller;
 
@@ -21,7 +20,7 @@ pub struct Connected {
 #[derive(Clone, Copy)]
 pub struct DisconnectWaits {
     pub number: u8,
-    pub reason: DisconnectReason,
+    pub reason: Option<u8>,
 }
 
 // The same for C: 0 where no Disconnect waits, since no reason is 0.
@@ -58,35 +57,35 @@ pub fn wegrulsta_has_connection(profile: ControllerRow, s: Controller, handle: u
     ensures { Finds profile s (λ m. links.has handle m.links.connections) false result.number result.connected }
 {
     let held = state::holds(s, profile);
-    let number = questions::about_state(profile, held);
-    if number != 0 {
+    if let Err(refusal) = questions::about_state(profile, held) {
         return Connected {
-            number,
+            number: refusal.into(),
             connected: false,
         };
     }
     let connected = links::has(s.links, handle);
     Connected {
-        number: 0,
+        number: ACCEPTED,
         connected,
     }
 }
 
 // The reason of the host's Disconnect of this link, while the peer has not acknowledged it.
 pub fn terminating(profile: ControllerRow, s: Controller, handle: u16) -> DisconnectWaits
-    ensures { Finds profile s (λ m. terminating_of handle m.links.connections) Nothing result.number result.reason }
+    ensures { Finds profile s (λ m. terminating_of handle m.links.connections) None result.number result.reason }
 {
     let held = state::holds(s, profile);
-    let number = questions::about_state(profile, held);
-    if number != 0 {
-        let none = DisconnectReason::Nothing;
+    if let Err(refusal) = questions::about_state(profile, held) {
         return DisconnectWaits {
-            number,
-            reason: none,
+            number: refusal.into(),
+            reason: None,
         };
     }
     let reason = links::terminating(s.links, handle);
-    DisconnectWaits { number: 0, reason }
+    DisconnectWaits {
+        number: ACCEPTED,
+        reason,
+    }
 }
 
 // The same for C, which has no enums that hold a value.
@@ -94,20 +93,9 @@ pub fn wegrulsta_terminating(profile: ControllerRow, s: Controller, handle: u16)
     ensures { Finds profile s (terminating_reason handle) 0 result.number result.reason }
 {
     let r = terminating(profile, s, handle);
-    let reason = r.reason;
     ReasonTold {
         number: r.number,
-        reason: reason_octet(reason),
-    }
-}
-
-// The reason as an octet.
-fn reason_octet(reason: DisconnectReason) -> u8
-    ensures { result ≡ reason_octet reason }
-{
-    match reason {
-        DisconnectReason::Reason(code) => code,
-        DisconnectReason::Nothing => 0,
+        reason: r.reason.unwrap_or(0),
     }
 }
 
@@ -116,12 +104,17 @@ pub fn wegrulsta_free_handle(profile: ControllerRow, s: Controller) -> FreeHandl
     ensures { Finds profile s (λ m. links.free_handle m.links.connections) 0 result.number result.handle }
 {
     let held = state::holds(s, profile);
-    let number = questions::about_state(profile, held);
-    if number != 0 {
-        return FreeHandle { number, handle: 0 };
+    if let Err(refusal) = questions::about_state(profile, held) {
+        return FreeHandle {
+            number: refusal.into(),
+            handle: 0,
+        };
     }
     let handle = links::free_handle(s.links);
-    FreeHandle { number: 0, handle }
+    FreeHandle {
+        number: ACCEPTED,
+        handle,
+    }
 }
 
 // How many buffers are in use: packets that wait in all links, and those in flight.
@@ -129,12 +122,17 @@ pub fn wegrulsta_buffers_in_use(profile: ControllerRow, s: Controller) -> InUse
     ensures { Finds profile s (λ m. links.in_use m.links) 0 result.number result.count }
 {
     let held = state::holds(s, profile);
-    let number = questions::about_state(profile, held);
-    if number != 0 {
-        return InUse { number, count: 0 };
+    if let Err(refusal) = questions::about_state(profile, held) {
+        return InUse {
+            number: refusal.into(),
+            count: 0,
+        };
     }
     let count = links::buffers_in_use(s.links);
-    InUse { number: 0, count }
+    InUse {
+        number: ACCEPTED,
+        count,
+    }
 }
 
 // The Supported_Commands bit map (Core Vol 4 Part E section 6.27) of the rows that are not unknown. Question 2.
@@ -143,12 +141,15 @@ pub fn wegrulsta_row_bitmap(opcodes: &[u16], answers: &[u8], bits: &[u16]) -> Bi
 {
     if !profile::rows_fit(opcodes, answers, bits) {
         return Bitmap {
-            number: 2,
+            number: Refusal::Rows.into(),
             map: [0; 64],
         };
     }
     let map = profile::row_bitmap(answers, bits);
-    Bitmap { number: 0, map }
+    Bitmap {
+        number: ACCEPTED,
+        map,
+    }
 }
 
 // The state that a controller starts with.

@@ -1,65 +1,61 @@
-// The questions that several calls begin with. Each function gives 0, or the number of the first question with a "no". The calls ask
-// question 3 themselves, and `held` is its answer: the state would be copied to be handed on from here (docs/SPEED.md).
+// The questions that several calls begin with: each function gives the first with a "no". The calls ask question 3 themselves, and
+// `held` is its answer: the state would be copied to be handed on from here (docs/SPEED.md).
 ghost use Rattle.std.specs.Prelude.{◌≡◌, ◌*◌, leb};
 ghost use Rattle.state.specs.Holding.{place_size};
-ghost use Rattle.controller.specs.Asked.{about_state, about_events, about_pool, about_packet};
+ghost use Rattle.controller.specs.Asked.{refusal_number, about_state, about_events, about_pool, about_packet};
 
+use crate::refusal::Refusal;
 use profile::ControllerRow;
 
-// What a call gets that no question refuses.
-const ACCEPTED: u8 = 0;
-
 // 1: is the profile within its limits? 3: does the state hold together?
-pub fn about_state(profile: ControllerRow, held: bool) -> u8
-    ensures { result ≡ about_state profile held }
+#[tactic(auto, unfolding(calls::specs::Calls::first_no))]
+pub fn about_state(profile: ControllerRow, held: bool) -> Result<(), Refusal>
+    ensures { refusal_number result ≡ about_state profile held }
 {
     if !profile::within_limits(profile) {
-        return 1;
+        return Err(Refusal::Profile);
     }
     if !held {
-        return 3;
+        return Err(Refusal::State);
     }
-    ACCEPTED
+    Ok(())
 }
 
 // 1, 3, and 5: has the event buffer 71 octets or more?
-pub fn about_events(profile: ControllerRow, held: bool, room: usize) -> u8
-    ensures { result ≡ about_events profile held room }
+#[tactic(auto, unfolding(calls::specs::Calls::first_no), using(crate::proofs::Asking::some))]
+pub fn about_events(profile: ControllerRow, held: bool, room: usize) -> Result<(), Refusal>
+    ensures { refusal_number result ≡ about_events profile held room }
 {
-    let number = about_state(profile, held);
-    if number != 0 {
-        return number;
-    }
+    about_state(profile, held)?;
     if room < 71 {
-        return 5;
+        return Err(Refusal::EventRoom);
     }
-    ACCEPTED
+    Ok(())
 }
 
 // 4: has the pool acl_count times acl_len + 5 octets or more?
 fn pool_fits(profile: ControllerRow, pool: usize) -> bool
     ensures { result ≡ leb (profile.acl_count * place_size profile) pool }
 {
-    let size = (profile.acl_len as usize) + 5;
-    let least = (profile.acl_count as usize) * size;
+    let size = usize::from(profile.acl_len) + 5;
+    let least = usize::from(profile.acl_count) * size;
     least <= pool
 }
 
 // 1, 3 and 4.
-pub fn about_pool(profile: ControllerRow, held: bool, pool: usize) -> u8
-    ensures { result ≡ about_pool profile held pool }
+#[tactic(auto, unfolding(calls::specs::Calls::first_no), using(crate::proofs::Asking::some))]
+pub fn about_pool(profile: ControllerRow, held: bool, pool: usize) -> Result<(), Refusal>
+    ensures { refusal_number result ≡ about_pool profile held pool }
 {
-    let number = about_state(profile, held);
-    if number != 0 {
-        return number;
-    }
+    about_state(profile, held)?;
     if !pool_fits(profile, pool) {
-        return 4;
+        return Err(Refusal::Pool);
     }
-    ACCEPTED
+    Ok(())
 }
 
 // 1, 2: are the rows' slices equally long, at most 256, answers at most 2?, 3, 4 and 5.
+#[tactic(auto, unfolding(calls::specs::Calls::first_no))]
 pub fn about_packet(
     profile: ControllerRow,
     opcodes: &[u16],
@@ -68,23 +64,23 @@ pub fn about_packet(
     held: bool,
     pool: usize,
     room: usize,
-) -> u8
-    ensures { result ≡ about_packet profile opcodes.now answers.now bits.now held pool room }
+) -> Result<(), Refusal>
+    ensures { refusal_number result ≡ about_packet profile opcodes.now answers.now bits.now held pool room }
 {
     if !profile::within_limits(profile) {
-        return 1;
+        return Err(Refusal::Profile);
     }
     if !profile::rows_fit(opcodes, answers, bits) {
-        return 2;
+        return Err(Refusal::Rows);
     }
     if !held {
-        return 3;
+        return Err(Refusal::State);
     }
     if !pool_fits(profile, pool) {
-        return 4;
+        return Err(Refusal::Pool);
     }
     if room < 71 {
-        return 5;
+        return Err(Refusal::EventRoom);
     }
-    ACCEPTED
+    Ok(())
 }

@@ -5,6 +5,7 @@ ghost use Rattle.calls.specs.Calls.{held};
 ghost use Rattle.calls.specs.Gives.{GivesAnyRows};
 ghost use Rattle.controller.specs.Answers.{took};
 
+use crate::refusal::{ACCEPTED, Refusal};
 use crate::{Took, questions};
 use profile::ControllerRow;
 use state::Controller;
@@ -22,41 +23,23 @@ pub fn wegrulsta_take(
         (took result out.old out.new) }
 {
     let held = state::holds(s, profile);
-    let number = questions::about_pool(profile, held, pool.len());
-    if number != 0 {
-        return refused(number, s);
+    if let Err(refusal) = questions::about_pool(profile, held, pool.len()) {
+        return refusal.took(s);
     }
-    let size = (profile.acl_len as usize) + 5;
-    let places = profile.acl_count as usize;
-    let r = transmit::take(s.links, pool, size, places, handle, max, out);
-    if !r.fits {
-        return refused(7, s);
-    }
-    let count = r.count;
-    let written = r.len;
+    let size = usize::from(profile.acl_len) + 5;
+    let places = usize::from(profile.acl_count);
+    let Some(r) = transmit::take(s.links, pool, size, places, handle, max, out) else {
+        return Refusal::PacketRoom.took(s);
+    };
     let waiting = r.waiting;
-    let mut links = s.links;
-    links.waiting = waiting;
-    links.waiting_count = r.waiting_count;
-    links.in_flight = r.in_flight;
     let mut t = s;
-    t.links = links;
+    t.links.waiting = waiting;
+    t.links.waiting_count = r.waiting_count;
+    t.links.in_flight = r.in_flight;
     Took {
-        number: 0,
+        number: ACCEPTED,
         state: t,
-        count,
-        written,
-    }
-}
-
-// A refused take.
-fn refused(number: u8, s: Controller) -> Took
-    ensures { (result.number ≡ number) × (result.state ≡ s) × (result.count ≡ 0) × (result.written ≡ 0) }
-{
-    Took {
-        number,
-        state: s,
-        count: 0,
-        written: 0,
+        count: r.count,
+        written: r.len,
     }
 }

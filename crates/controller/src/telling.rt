@@ -1,15 +1,28 @@
-// Writing what a notice tells the host.
+// What a notice answers that no question refused.
 ghost use Rattle.std.specs.Prelude.{◌≡◌};
 ghost use Rattle.octets.specs.Octets.{Put};
 ghost use Rattle.answers.specs.Answers.{answer_of, octets_of};
 ghost use Rattle.controller.specs.Asked.{CanTell};
 
-use answers::Answer;
+use crate::Told;
+use crate::refusal::ACCEPTED;
+use commands::{Answered, StatePart};
+use state::Controller;
 
-// Writes a notice's event, if it has one, to the front of out. A notice has no acknowledgement, so there is no opcode.
-pub fn tell(answer: Answer, out: &mut [u8]) -> usize
-    requires { CanTell answer out.old }
-    ensures { Put out.old 0 (octets_of 0 0 (answer_of answer)) result out.new }
+// The state with what the notice changed, and its event, if it has one, written to the front of out. A notice has no
+// acknowledgement, so there is no opcode. The state is put together before the event is written (docs/SPEED.md).
+pub fn heard<P: StatePart>(s: Controller, r: Answered<P>, out: &mut [u8]) -> Told
+    requires { CanTell r.answer out.old }
+    ensures number { result.number ≡ 0 }
+    ensures state { result.state ≡ P.put r.part s }
+    ensures event { Put out.old 0 (octets_of 0 0 (answer_of r.answer)) result.written out.new }
 {
-    answers::write_answer(answer, 0, 0, out)
+    let answer = r.answer;
+    let t = r.part.put(s);
+    let written = answers::write_answer(answer, 0, 0, out);
+    Told {
+        number: ACCEPTED,
+        state: t,
+        written,
+    }
 }

@@ -1,5 +1,5 @@
--- The commands that change nothing: from a handler's answer to what the table asks, and in which half of the table their opcodes
--- stand. For the functions of `reading`.
+-- In which half of the table the opcodes of the commands that change nothing stand, for `read`; and what a row says of the row
+-- that it is, for `read` and for `command`.
 use mathlib.Core.Path.{◌≡◌, refl, ap}
 use Prim.Native.Nat.{ℕ, ◌≤◌, ◌<◌}
 use native.Mathlib.Omega.{arith}
@@ -9,28 +9,12 @@ use lib.Dec.{eqb, ltb, leb}
 use borrow.Author.Tests.{ltb-true, leb-true, ne_eqb}
 use Rattle.profile.specs.declared.ControllerRow.{ControllerRow}
 use Rattle.answers.specs.declared.Answer.{Answer}
-use Rattle.answers.specs.Answers.{AnswerModel}
-use Rattle.state.specs.State.{view}
-use Rattle.state.specs.Holding.{StateHolds}
 use Rattle.state.specs.declared.Controller.{Controller}
 use Rattle.lists.specs.Lists.{all}
-use Rattle.commands.specs.Outcome.{outcome, Answers, Given, Gives}
-use Rattle.commands.specs.Table.{Row, no_row, find, fits, sized}
-use Rattle.commands.proofs.Giving.{gives_answer}
-use Rattle.commands.proofs.Reached.{Passed, last_arm_never}
+use Rattle.commands.specs.Outcome.{Given, Gives}
+use Rattle.commands.specs.Table.{Row, no_row, find, fits}
 use Rattle.dispatch.specs.declared.Part.TheVariants.{Nothing}
 use Rattle.dispatch.specs.Parts.{rows_of, known_reads, le_reads}
-
--- the arm of a `match` on the opcode: its handler's answer, beside the state as it was, is what the row of its key says
-pub gives_read : {k : ControllerRow} {s : Controller} {expected : AnswerModel} {a : Answer} (l : List Row) (g : Given) {op key : ℕ} → op ≡ key
-    → Answers expected a → ((size : ℕ) (pool : List ℕ) → (find key l).does g (view s size pool) ≡ outcome expected (view s size pool))
-    → StateHolds s k → Gives ((find op l).does g) k s s a
-gives_read l g same answers row held = rw same (gives_answer (answers.same, answers.shaped) row held)
-
--- the last arm, which no opcode of the table reaches
-pub never_read : {k : ControllerRow} {s : Controller} {a : Answer} (op n : ℕ) (l : List Row) (g : Given) → Passed op (Unit {0}) l → sized op l n ≡ true
-    → Gives ((find op l).does g) k s s a
-never_read op n l g rest right = absurd (last_arm_never op n l rest right)
 
 -- ---- the two halves: the rows of the first have opcodes below a bound, those of the second have not
 
@@ -42,12 +26,14 @@ find_none op bound (r ∷ l) h high =
     let both = (and-eq-true_iff (leb bound r.opcode) (all (λ x. leb bound x.opcode) l)).0 high in
     rw (ne_eqb r.opcode op (λ e. omega (arith, leb-true bound r.opcode both.0))) (find_none op bound l h both.1)
 
-find_low : (op bound : ℕ) (l rest : List Row) → op < bound → all (λ r. leb bound r.opcode) rest ≡ true → find op (l ++ rest) ≡ find op l
+find_low : (op bound : ℕ) (l rest : List Row) → op < bound → all (λ r. leb bound r.opcode) rest ≡ true
+    → find op (l ++ rest) ≡ find op l
 unfolding find
 find_low op bound [] rest h high = find_none op bound rest h high
 find_low op bound (r ∷ l) rest h high = ap (λ (x : Row). cond (eqb r.opcode op) r x) (find_low op bound l rest h high)
 
-find_high : (op bound : ℕ) (l rest : List Row) → bound ≤ op → all (λ r. ltb r.opcode bound) l ≡ true → find op (l ++ rest) ≡ find op rest
+find_high : (op bound : ℕ) (l rest : List Row) → bound ≤ op → all (λ r. ltb r.opcode bound) l ≡ true
+    → find op (l ++ rest) ≡ find op rest
 unfolding find all
 find_high op bound [] rest h low = refl
 find_high op bound (r ∷ l) rest h low =
@@ -72,5 +58,6 @@ le_half op h = find_high op 0x2000 known_reads le_reads h known_low
 pub row_fits : {x y : Row} (n : ℕ) → x ≡ y → fits x.size n ≡ true → fits y.size n ≡ true
 row_fits n same h = rw same at h
 
-pub row_gives : {x y : Row} {g : Given} {k : ControllerRow} {s t : Controller} {a : Answer} → x ≡ y → Gives (y.does g) k s t a → Gives (x.does g) k s t a
+pub row_gives : {x y : Row} {g : Given} {k : ControllerRow} {s t : Controller} {a : Answer} → x ≡ y → Gives (y.does g) k s t a
+    → Gives (x.does g) k s t a
 row_gives same h = rw same h

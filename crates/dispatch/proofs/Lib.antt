@@ -1,4 +1,3 @@
 -- The laws of `dispatch`.
 pub mod Choosing
 pub mod Halves
-pub mod Picking

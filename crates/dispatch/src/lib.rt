@@ -1,20 +1,25 @@
-// Which function carries out a command. A command that changes the state changes one part of it, and there is a function here for
-// each part: it picks the command by its opcode and gives the new part beside the answer, so that the state itself is put together
-// once, by `command`. Contracts cite `specs/Parts.antt` and the table of commands, `specs/Table.antt` of the crate `commands`.
+// Which function carries out a command. A command that changes the state changes one part of it, and each part carries out its
+// own commands (`CommandPart`): it picks the command by its opcode and gives the new part beside the answer, so that the state
+// itself is put together once, by `command`. Commands that change nothing have `read`. Contracts cite `specs/Parts.antt` and the
+// table of commands, `specs/Table.antt` of the crate `commands`.
 #![tactic(auto)]
 
-ghost use Rattle.std.specs.Prelude.{◌≡◌, ◌<◌, get_or};
-ghost use Rattle.dispatch.specs.Parts.{part_number, parts};
+ghost use Rattle.std.specs.Prelude.{◌≡◌, ◌<◌, ℕ, List, true, length, get_or};
+ghost use Rattle.commands.specs.Outcome.{given, Ready, Gives};
+ghost use Rattle.commands.specs.Table.{find, sized};
+ghost use Rattle.dispatch.specs.Parts.{parts, rows_of};
+ghost use Rattle.dispatch.specs.declared.Part.{Part};
+ghost use Rattle.dispatch.specs.declared.Part.TheVariants as variant;
 
 mod linking;
 mod listing;
 mod reading;
 mod setting;
 
-pub use linking::{everything, links};
-pub use listing::{accept_list, resolving_list};
+use commands::{Answered, StatePart};
+use profile::ControllerRow;
 pub use reading::read;
-pub use setting::{advertising, masks, scanning, settings};
+use state::Controller;
 
 // The part of the state that a command changes. Only Reset changes more than one.
 #[derive(Clone, Copy)]
@@ -30,29 +35,97 @@ pub enum Part {
     Everything,
 }
 
-// The part's number for each place of the table of commands, in the order of `Part`.
-const PARTS: [u8; 71] = [
-    7, 0, 1, 8, 0, 2, 0, 0, 1, 0, 7, 0, 0, 0, 0, 0, 1, 0, 0, 2, 3, 0, 3, 3, 3, 4, 4, 4, 4, 0, 5, 5,
-    5, 7, 0, 0, 0, 0, 0, 0, 7, 7, 7, 0, 7, 0, 2, 6, 6, 6, 0, 0, 0, 2, 2, 0, 0, 2, 7, 6, 0, 2, 2, 2,
-    2, 2, 0, 0, 0, 0, 2,
+// A part of the state, by which `part` names it, whose commands are carried out here: the part as it is to be, and the answer.
+pub trait CommandPart: StatePart {
+    ghost part: { Part };
+
+    fn carry_out(s: Controller, profile: ControllerRow, op: u16, p: &[u8]) -> Answered<Self>
+        requires { Ready s profile × (sized op (rows_of part) (length p.now) ≡ true) }
+        ensures { (address : List ℕ) (random : ℕ)
+            → Gives ((find op (rows_of part)).does (given profile address random p.now))
+            profile s (Self.put result.part s) result.answer };
+}
+
+// The part for each place of the table of commands.
+const PARTS: [Part; 71] = [
+    Part::Links,
+    Part::Nothing,
+    Part::Masks,
+    Part::Everything,
+    Part::Nothing,
+    Part::Settings,
+    Part::Nothing,
+    Part::Nothing,
+    Part::Masks,
+    Part::Nothing,
+    Part::Links,
+    Part::Nothing,
+    Part::Nothing,
+    Part::Nothing,
+    Part::Nothing,
+    Part::Nothing,
+    Part::Masks,
+    Part::Nothing,
+    Part::Nothing,
+    Part::Settings,
+    Part::Advertising,
+    Part::Nothing,
+    Part::Advertising,
+    Part::Advertising,
+    Part::Advertising,
+    Part::Scanning,
+    Part::Scanning,
+    Part::Scanning,
+    Part::Scanning,
+    Part::Nothing,
+    Part::AcceptList,
+    Part::AcceptList,
+    Part::AcceptList,
+    Part::Links,
+    Part::Nothing,
+    Part::Nothing,
+    Part::Nothing,
+    Part::Nothing,
+    Part::Nothing,
+    Part::Nothing,
+    Part::Links,
+    Part::Links,
+    Part::Links,
+    Part::Nothing,
+    Part::Links,
+    Part::Nothing,
+    Part::Settings,
+    Part::ResolvingList,
+    Part::ResolvingList,
+    Part::ResolvingList,
+    Part::Nothing,
+    Part::Nothing,
+    Part::Nothing,
+    Part::Settings,
+    Part::Settings,
+    Part::Nothing,
+    Part::Nothing,
+    Part::Settings,
+    Part::Links,
+    Part::ResolvingList,
+    Part::Nothing,
+    Part::Settings,
+    Part::Settings,
+    Part::Settings,
+    Part::Settings,
+    Part::Settings,
+    Part::Nothing,
+    Part::Nothing,
+    Part::Nothing,
+    Part::Nothing,
+    Part::Settings,
 ];
 
 // The part that the command at a place of the table changes.
 pub fn part_at(place: usize) -> Part
     requires { place < 71 }
-    ensures { part_number result ≡ get_or parts place 0 }
+    ensures { result ≡ get_or parts place variant.Nothing }
 {
-    let numbers = PARTS;
-    match numbers[place] {
-        0 => Part::Nothing,
-        1 => Part::Masks,
-        2 => Part::Settings,
-        3 => Part::Advertising,
-        4 => Part::Scanning,
-        5 => Part::AcceptList,
-        6 => Part::ResolvingList,
-        7 => Part::Links,
-        // No other number stands in the column.
-        _ => Part::Everything,
-    }
+    let parts = PARTS;
+    parts[place]
 }

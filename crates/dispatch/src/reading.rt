@@ -10,7 +10,11 @@ use hci::status::{SUCCESS, UNKNOWN_COMMAND};
 use profile::ControllerRow;
 use state::Controller;
 
+// The opcodes of the LE commands begin here.
+const FIRST_LE: u16 = 0x2000;
+
 // What a command that changes nothing answers; address is what Read BD_ADDR tells and random what LE Rand tells.
+#[tactic(auto, using(crate::proofs::Halves::known_half, crate::proofs::Halves::le_half))]
 pub fn read(
     s: Controller,
     profile: ControllerRow,
@@ -22,13 +26,14 @@ pub fn read(
     requires { Ready s profile × (sized op (rows_of Nothing) (length p.now) ≡ true) }
     ensures { Gives ((find op (rows_of Nothing)).does (given profile address random p.now)) profile s s result }
 {
-    if op < 0x2000 {
+    if op < FIRST_LE {
         return known_read(s, profile, address, op, p);
     }
     le_read(s, profile, random, op, p)
 }
 
 // Of the commands below 0x2000. The last arm is never reached: `requires` rules it out.
+#[tactic(auto, unfolding(commands::specs::Table::find))]
 fn known_read(s: Controller, profile: ControllerRow, address: [u8; 6], op: u16, p: &[u8]) -> Answer
     requires { Ready s profile × (sized op known_reads (length p.now) ≡ true) }
     ensures { (random : ℕ) → Gives ((find op known_reads).does (given profile address random p.now)) profile s s result }
@@ -51,6 +56,7 @@ fn known_read(s: Controller, profile: ControllerRow, address: [u8; 6], op: u16, 
 }
 
 // Of the LE commands. The last arm is never reached.
+#[tactic(auto, unfolding(commands::specs::Table::find, commands::specs::Link::set_host_channels))]
 fn le_read(s: Controller, profile: ControllerRow, random: u64, op: u16, p: &[u8]) -> Answer
     requires { Ready s profile × (sized op le_reads (length p.now) ≡ true) }
     ensures { (address : List ℕ) → Gives ((find op le_reads).does (given profile address random p.now)) profile s s result }

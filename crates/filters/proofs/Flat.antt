@@ -1,5 +1,6 @@
 -- A flat array of entries of w octets each: where the entry at a place stands, and what the stores of this crate do to
 -- the list of entries. For the loops and the stores of both lists.
+use Rattle.std.specs.Prelude.{Some, None, position}
 use Prim.Native.Nat.{ℕ, zero, suc, ◌+◌, ◌-◌, ◌*◌, ◌≤◌, ◌<◌}
 use native.Mathlib.Nat.{le_of_suc-le-suc, add_comm, add-zero, suc-mul, zero-mul, zero-add, mul-le-mul_right, add-mul}
 use native.Mathlib.Omega.{arith}
@@ -8,12 +9,12 @@ use mathlib.Core.Bool.{Bool, true, false}
 use mathlib.Core.Path.{◌≡◌, sym, ap, ◌∙◌}
 use mathlib.Core.List.{List, [], ◌∷◌, ◌++◌, append_assoc, append-nil}
 use lib.Dec.{ltb}
-use lib.ListN.{length, take, drop, set, length-drop, length-set}
+use lib.ListN.{drop_of_length-le, length, take, drop, set, length-drop, length-set}
 use lib.Seq.{take_all, drop-append-add, drop-drop, length-take-le, take-set-le, take-set-lt, drop-set-lt}
 use lib.Seq.{drop-set-add, take-suc-set}
 use borrow.Rule.Slice.PartMut.{mid_of, put_mid}
 use Rattle.lists.specs.Lists.{first_at, any, update_first, chunks}
-use Rattle.lists.proofs.Search.{Searching, first_here, first_skip, first_end}
+use Rattle.lists.proofs.Search.{Searching, first_here, first_skip, position_some, position_none}
 use Rattle.lists.proofs.Tests.{any_first}
 use Rattle.lists.proofs.Update.{update_at}
 use Rattle.lists.proofs.Chunks.{length_chunks, get_d_chunks, chunks_append, chunks_take, chunks_add, take_chunks, chunks_push}
@@ -33,9 +34,6 @@ module _ (w : ℕ) where
       let m = n - p - 1 in
       let e : n ≡ p + suc m = omega arith in
       omega (arith, ap (λ (k : ℕ). k * w) e, add-mul p (suc m) w, suc-mul m w)
-
-  pub next_at : (i at : ℕ) → at ≡ i * w → at + w ≡ (i + 1) * w
-  next_at i at e = rw (add-one, suc-mul, e)
 
   -- ---- a search of the entries: the one at i passes, it fails, and the end
   module _ (n : ℕ) (l : List ℕ) (p : List ℕ → Bool) where
@@ -57,12 +55,23 @@ module _ (w : ℕ) where
         rw whole at
         (first_skip (chunks w n l) n p i [] (rw whole inv) (rw (get_d_chunks w n l i [] h) e) h long)
 
-    pub entry_end : (i : ℕ) → Searching p (chunks w n l) i → i ≡ n → i ≡ first_at p (chunks w n l)
-    entry_end i inv e = e ∙ (rw whole at (first_end (chunks w n l) n p i (rw whole inv) e))
+    pub entry_end : (i : ℕ) → Searching p (chunks w n l) i → n ≤ i → i ≡ first_at p (chunks w n l)
+    unfolding first_at
+    entry_end i inv h =
+        let past : drop i (chunks w n l) ≡ [] = drop_of_length-le (chunks w n l) (omega (arith, length_chunks w n l)) in
+        let z : first_at p (drop i (chunks w n l)) ≡ 0 = rw past in
+        omega arith
 
     -- the place that is found is below n exactly if there is such an entry
     pub entry_found : (i : ℕ) → i ≡ first_at p (chunks w n l) → ltb i n ≡ any p (chunks w n l)
     entry_found i e = rw e (sym (rw length_chunks at (any_first p (chunks w n l))))
+
+    -- the same of a search's answer
+    pub entry_place : (i : ℕ) → position p (chunks w n l) ≡ Some i → (i ≡ first_at p (chunks w n l)) × (i < n)
+    entry_place i e = rw length_chunks at (position_some p (chunks w n l) i e)
+
+    pub entry_none : position p (chunks w n l) ≡ None → length (chunks w n l) ≤ first_at p (chunks w n l)
+    entry_none e = position_none p (chunks w n l) e
 
   -- ---- one entry more, written behind the first n
   pub splice_push : (n : ℕ) (l e : List ℕ) → length e ≡ w → (n + 1) * w ≤ length l

@@ -2,7 +2,6 @@
 -- and equal ones have equal lowest octets. For the searches of this crate.
 use Prim.Native.Nat.{ℕ, ◌+◌, ◌*◌, ◌/◌, ◌%◌, ◌≤◌, ◌<◌}
 use native.Mathlib.Decide.{dec_lt}
-use native.Mathlib.Nat.{zero-add, zero-mul}
 use native.Mathlib.Omega.{arith}
 use mathlib.Core.Path.{◌≡◌, sym, ap, ap₂, ◌∙◌}
 use mathlib.Core.List.{List, []}
@@ -13,16 +12,16 @@ use mir.Syntax.{w8}
 use mir.Val.{Fits}
 use borrow.Author.Tests.{eq-eqb, ne_eqb, eqb-true, eqb-false}
 use borrow.Table.Steps.{cases}
-use Rattle.lists.specs.Lists.{first_at, keyed, distinct, same_list, chunks}
+use Rattle.lists.specs.Lists.{first_at, any, keyed, distinct, same_list, chunks}
 use Rattle.lists.proofs.Search.{Searching}
 use Rattle.lists.proofs.Same.{same_equal, same_self, eqb_sym}
 use Rattle.lists.proofs.Chunks.{length_chunks, get_d_chunks}
-use Rattle.lists.proofs.Agree.{first_agree, distinct_agree}
+use Rattle.lists.proofs.Agree.{first_agree, any_agree_at, distinct_agree}
 use Rattle.octets.specs.Octets.{octet, le, number_at}
-use Rattle.octets.proofs.Numbers.{le_number, number_after, number_front}
+use Rattle.octets.proofs.Numbers.{le_number, number_front}
 use Rattle.filters.specs.Filters.{has_identity, identities_differ, entries_differ}
 use Rattle.filters.specs.Keys.{key_of, low_of}
-use Rattle.filters.proofs.Flat.{within, next_at, entry_here, entry_skip, entry_end}
+use Rattle.filters.proofs.Flat.{within, entry_here, entry_skip, entry_end}
 
 -- ---- octets below 256, in a list and in a part of it
 abbrev pub Octets : List ℕ → Type 0
@@ -59,10 +58,6 @@ same_key : (a b : List ℕ) → length a ≡ 7 → length b ≡ 7 → Octets a �
 unfolding key_of
 same_key = same_number 7
 
--- a number that stands behind the first octets
-pub number_drop : (w : ℕ) (l : List ℕ) (at i : ℕ) → at ≤ length l → number_at w l (at + i) ≡ number_at w (drop at l) i
-number_drop w l at i h = rw (take-append-drop, length-take-le at l h) at (number_after w (take at l) (drop at l) i)
-
 -- the key is that of the first seven octets
 pub key_front : (x : List ℕ) → 7 ≤ length x → key_of (take 7 x) ≡ key_of x
 unfolding key_of
@@ -84,12 +79,6 @@ key_identity identity entry li le oi oe =
     let front = take 7 entry in
     rw (← key_front entry le, eqb_sym (key_of front) (key_of identity))
     (same_key identity front li (length-take-le 7 entry le) oi (octets_take 7 entry oe))
-
--- the entries before the one at i have other keys, and it stands at `at`
-pub record Seeking (w n : ℕ) (l : List ℕ) (key i at : ℕ) : Type 0 where
-  pub below : i ≤ n
-  pub stands : at ≡ i * w
-  pub unmet : Searching (keyed key_of key) (chunks w n l) i
 
 -- ---- the entries of a flat array
 module _ (w n : ℕ) (l : List ℕ) (wide : 7 ≤ w) (fits : n * w ≤ length l) where
@@ -114,29 +103,20 @@ module _ (w n : ℕ) (l : List ℕ) (wide : 7 ≤ w) (fits : n * w ≤ length l)
       let below = octets_drop (i * w) l o in
       same_low x (take w x) below (octets_take w x below) (entry_key i h)
 
-  -- ---- the loop that looks for a key: its first turn, a turn that finds it, one that goes on, and the end
-  pub seek_begin : (key : ℕ) → Seeking w n l key 0 0
-  seek_begin key = record { below = omega arith; stands = sym (zero-mul w); unmet = sym (zero-add _) }
-
-  pub seek_here : {key i at : ℕ} (read : ℕ) → Seeking w n l key i at → read ≡ key_of (drop at l) → read ≡ key → i < n
-      → i ≡ first_at (keyed key_of key) (chunks w n l)
+  -- ---- the loop that looks for a key: a turn that finds it, one that goes on, and the end
+  pub seek_here : {key i : ℕ} (read : ℕ) → Searching (keyed key_of key) (chunks w n l) i → read ≡ key_of (drop (i * w) l)
+      → read ≡ key → i < n → i ≡ first_at (keyed key_of key) (chunks w n l)
   seek_here {key} {i} read g e found h =
-      let here : key_of (take w (drop (i * w) l)) ≡ key = sym (entry_key i h) ∙ rw (← g.stands) (sym e ∙ found) in
-      entry_here w n l (keyed key_of key) i g.unmet (eq-eqb _ _ here) h
+      entry_here w n l (keyed key_of key) i g (eq-eqb _ _ (sym (entry_key i h) ∙ sym e ∙ found)) h
 
-  pub seek_on : {key i at : ℕ} (read : ℕ) → Seeking w n l key i at → read ≡ key_of (drop at l) → (read ≡ key → ⊥) → i < n
-      → Seeking w n l key (i + 1) (at + w)
-  seek_on {key} {i} {at} read g e other h =
-      let here : key_of (take w (drop (i * w) l)) ≡ key → ⊥ =
-      λ k. other (e ∙ rw g.stands (entry_key i h ∙ k)) in
-      record {
-        below = omega arith;
-        stands = next_at w i at g.stands;
-        unmet = entry_skip w n l (keyed key_of key) i g.unmet (ne_eqb _ _ here) h;
-      }
+  pub seek_on : {key i : ℕ} (read : ℕ) → Searching (keyed key_of key) (chunks w n l) i → read ≡ key_of (drop (i * w) l)
+      → (read ≡ key → ⊥) → i < n → Searching (keyed key_of key) (chunks w n l) (i + 1)
+  seek_on {key} {i} read g e other h =
+      entry_skip w n l (keyed key_of key) i g (ne_eqb _ _ (λ k. other (e ∙ entry_key i h ∙ k))) h
 
-  pub seek_end : {key i at : ℕ} → Seeking w n l key i at → n ≤ i → i ≡ first_at (keyed key_of key) (chunks w n l)
-  seek_end {key} {i} g h = entry_end w n l (keyed key_of key) i g.unmet (omega arith)
+  pub seek_end : (key i : ℕ) → Searching (keyed key_of key) (chunks w n l) i → n ≤ i
+      → i ≡ first_at (keyed key_of key) (chunks w n l)
+  seek_end key i g h = entry_end w n l (keyed key_of key) i g h
 
   -- a search by the key finds what a search of the identity finds
   pub first_key : (identity : List ℕ) (key : ℕ) → key ≡ key_of identity → length identity ≡ 7 → Octets identity → Octets l
@@ -168,6 +148,9 @@ module _ (n : ℕ) (l : List ℕ) (fits : n * 7 ≤ length l) where
 
   pub first_entry : (entry : List ℕ) → first_at (has_identity entry) (chunks 7 n l) ≡ first_at (same_list entry) (chunks 7 n l)
   first_entry entry = first_agree _ _ (chunks 7 n l) [] (λ i h. ap (same_list entry) (entry_whole i h))
+
+  pub any_entry : (entry : List ℕ) → any (has_identity entry) (chunks 7 n l) ≡ any (same_list entry) (chunks 7 n l)
+  any_entry entry = any_agree_at _ _ (chunks 7 n l) [] (λ i h. ap (same_list entry) (entry_whole i h))
 
   pub differ_entry : identities_differ (chunks 7 n l) ≡ entries_differ (chunks 7 n l)
   differ_entry =

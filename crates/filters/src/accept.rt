@@ -1,5 +1,5 @@
 // The accept list (Core Vol 4 Part E sections 7.8.15 to 7.8.17): entries of a type and an address, oldest first.
-ghost use Rattle.std.specs.Prelude.{◌≡◌, [], ◌≤◌, length};
+ghost use Rattle.std.specs.Prelude.{◌≡◌, [], ◌≤◌, length, true, false, MatchOption};
 ghost use Rattle.filters.specs.Filters.{accept_entries, accept_entry, contains_entry, added, is_full, removed, entries_differ};
 
 use crate::differ::entries_differ;
@@ -11,13 +11,6 @@ use crate::resolving::identity;
 pub struct AcceptList {
     pub octets: [u8; 224],
     pub count: usize,
-}
-
-// The list after adding, and whether it was full.
-#[derive(Clone, Copy)]
-pub struct AcceptAdded {
-    pub list: AcceptList,
-    pub full: bool,
 }
 
 impl AcceptList {
@@ -36,36 +29,27 @@ impl AcceptList {
         requires { self.count ≤ 32 }
         ensures { result ≡ contains_entry entry (accept_entries self) }
     {
-        let octets = self.octets;
-        let n = self.count;
-        place_of(&octets, 7, n, entry) < n
+        place_of(&self.octets, 7, self.count, entry).is_some()
     }
 
-    // Adds an entry: one that is present stays as it is, also where the list is full.
-    pub fn add(self, entry: [u8; 7], size: usize) -> AcceptAdded
+    // Adds an entry: one that is present stays as it is, also where the list is full. None where it is full without it.
+    pub fn add(self, entry: [u8; 7], size: usize) -> Option<AcceptList>
         requires { (self.count ≤ 32) × (size ≤ 32) }
-        ensures { (accept_entries result.list ≡ added size entry (accept_entries self)) × (result.full ≡ is_full size entry (accept_entries self)) }
+        ensures { MatchOption result (is_full size entry (accept_entries self) ≡ true) (λ list. (is_full size entry (accept_entries self) ≡ false) × (accept_entries list ≡ added size entry (accept_entries self))) }
     {
         let n = self.count;
         if self.contains(entry) {
-            return AcceptAdded {
-                list: self,
-                full: false,
-            };
+            return Some(self);
         }
         if size <= n {
-            return AcceptAdded {
-                list: self,
-                full: true,
-            };
+            return None;
         }
         let mut octets = self.octets;
-        let count = n + 1;
         octets::put(&mut octets, n * 7, &entry);
-        AcceptAdded {
-            list: AcceptList { octets, count },
-            full: false,
-        }
+        Some(AcceptList {
+            octets,
+            count: n + 1,
+        })
     }
 
     // Removes an entry; one that is absent changes nothing.
@@ -75,11 +59,9 @@ impl AcceptList {
     {
         let mut octets = self.octets;
         let mut n = self.count;
-        let mut place = place_of(&octets, 7, n, entry);
-        while place < n {
+        while let Some(place) = place_of(&octets, 7, n, entry) {
             cut(&mut octets, 7, n, place);
             n -= 1;
-            place = place_of(&octets, 7, n, entry);
         }
         AcceptList { octets, count: n }
     }
@@ -101,10 +83,5 @@ pub fn accept_entries_differ(list: AcceptList) -> bool
     requires { list.count ≤ 32 }
     ensures { result ≡ entries_differ (accept_entries list) }
 {
-    let n = list.count;
-    if n < 2 {
-        return true;
-    }
-    let octets = list.octets;
-    entries_differ(&octets, 7, n)
+    list.count < 2 || entries_differ(&list.octets, 7, list.count)
 }

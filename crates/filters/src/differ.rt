@@ -14,16 +14,13 @@ pub fn entries_differ(octets: &[u8], width: usize, n: usize) -> bool
     ensures { result ≡ identities_differ (chunks width n octets.now) }
 {
     let mut met = [false; 512];
-    let mut i: usize = 0;
-    let mut at: usize = 0;
-    while i < n {
+    for i in 0..n {
+        let at = i * width;
         let mark = (low_at(octets, at) % 512) as usize;
         if met[mark] && stands_before(octets, width, i, at) {
             return false;
         }
         met[mark] = true;
-        i += 1;
-        at += width;
     }
     true
 }
@@ -33,9 +30,12 @@ fn low_at(octets: &[u8], at: usize) -> u32
     requires { at + 7 ≤ length octets.now }
     ensures { result ≡ low_of (drop at octets.now) }
 {
-    let low = octets::word_at(octets, at + 1) as u32;
-    let high = octets::word_at(octets, at + 3) as u32;
-    low + 65536 * high
+    u32::from_le_bytes([
+        octets[at + 1],
+        octets[at + 2],
+        octets[at + 3],
+        octets[at + 4],
+    ])
 }
 
 // Whether one of the first n entries has the type and address of the one that stands from index at on. The four octets are
@@ -46,14 +46,11 @@ fn stands_before(octets: &[u8], width: usize, n: usize, at: usize) -> bool
 {
     let low = low_at(octets, at);
     let key = key_at(octets, at);
-    let mut i: usize = 0;
-    let mut place: usize = 0;
-    while i < n {
+    for i in 0..n {
+        let place = i * width;
         if low_at(octets, place) == low && key_at(octets, place) == key {
             return true;
         }
-        i += 1;
-        place += width;
     }
     false
 }

@@ -1,7 +1,7 @@
 // The entries of a flat list told apart by their type and address, seven octets that are read as one number: for both
 // lists. An entry has `width` octets, of which the first seven count; n entries are in use.
-ghost use Rattle.std.specs.Prelude.{◌≡◌, ◌+◌, ◌-◌, ◌*◌, ◌≤◌, ◌<◌, length, drop};
-ghost use Rattle.lists.specs.Lists.{first_at, chunks};
+ghost use Rattle.std.specs.Prelude.{◌≡◌, ◌+◌, ◌-◌, ◌*◌, ◌≤◌, ◌<◌, length, drop, position, IfSome};
+ghost use Rattle.lists.specs.Lists.{chunks};
 ghost use Rattle.filters.specs.Filters.{has_identity};
 ghost use Rattle.filters.specs.Keys.{key_of, without_place};
 
@@ -9,15 +9,8 @@ ghost use Rattle.filters.specs.Keys.{key_of, without_place};
 pub fn key_of(entry: [u8; 7]) -> u64
     ensures { result ≡ key_of entry }
 {
-    let high = wide(entry[4]) + 256 * (wide(entry[5]) + 256 * wide(entry[6]));
-    let middle = wide(entry[2]) + 256 * (wide(entry[3]) + 256 * high);
-    wide(entry[0]) + 256 * (wide(entry[1]) + 256 * middle)
-}
-
-fn wide(x: u8) -> u64
-    ensures { (result ≡ x) × (result < 256) }
-{
-    x as u64
+    let [a, b, c, d, e, f, g] = entry;
+    u64::from_le_bytes([a, b, c, d, e, f, g, 0])
 }
 
 // The key of the entry that stands from index at on.
@@ -36,22 +29,19 @@ pub fn key_at(octets: &[u8], at: usize) -> u64
     ])
 }
 
-// The place of the first entry with this type and address, or n where there is none.
-pub fn place_of(octets: &[u8], width: usize, n: usize, identity: [u8; 7]) -> usize
+// The place of the first entry with this type and address.
+pub fn place_of(octets: &[u8], width: usize, n: usize, identity: [u8; 7]) -> Option<usize>
     requires { (7 ≤ width) × (n * width ≤ length octets.now) }
-    ensures { result ≡ first_at (has_identity identity) (chunks width n octets.now) }
+    ensures found { result ≡ position (has_identity identity) (chunks width n octets.now) }
+    ensures within { IfSome result (λ place. place < n) }
 {
     let key = key_of(identity);
-    let mut i: usize = 0;
-    let mut at: usize = 0;
-    while i < n {
-        if key_at(octets, at) == key {
-            return i;
+    for i in 0..n {
+        if key_at(octets, i * width) == key {
+            return Some(i);
         }
-        i += 1;
-        at += width;
     }
-    i
+    None
 }
 
 // Takes the entry at a place out: those behind it move up.

@@ -8,5 +8,5 @@ mod differ;
 mod keys;
 mod resolving;
 
-pub use accept::{AcceptAdded, AcceptList, accept_entries_differ, accept_entry};
+pub use accept::{AcceptList, accept_entries_differ, accept_entry};
 pub use resolving::{ResolvingList, identities_differ, identity};

@@ -1,7 +1,7 @@
 // The resolving list (Core Vol 4 Part E sections 7.8.38 to 7.8.40 and 7.8.77): identities of a type and an address,
 // each with its privacy mode behind it, oldest first. Adding one is `position`, then the profile's size, then `push`.
-ghost use Rattle.std.specs.Prelude.{◌≡◌, [], ◌∷◌, ◌++◌, ◌≤◌, ◌<◌, length, take};
-ghost use Rattle.lists.specs.Lists.{first_at, without, update_first};
+ghost use Rattle.std.specs.Prelude.{◌≡◌, [], ◌∷◌, ◌++◌, ◌≤◌, ◌<◌, length, take, position};
+ghost use Rattle.lists.specs.Lists.{without, update_first};
 ghost use Rattle.filters.specs.Filters.{resolving_entries, has_identity, new_entry, with_mode, identities_differ};
 
 use crate::differ::entries_differ;
@@ -25,14 +25,12 @@ impl ResolvingList {
         }
     }
 
-    // The place of the entry with this identity, or the count where there is none.
-    pub fn position(self, identity: [u8; 7]) -> usize
+    // The place of the entry with this identity.
+    pub fn position(self, identity: [u8; 7]) -> Option<usize>
         requires { self.count ≤ 16 }
-        ensures { result ≡ first_at (has_identity identity) (resolving_entries self) }
+        ensures { result ≡ position (has_identity identity) (resolving_entries self) }
     {
-        let octets = self.octets;
-        let n = self.count;
-        place_of(&octets, 8, n, identity)
+        place_of(&self.octets, 8, self.count, identity)
     }
 
     // Appends an identity with mode 0.
@@ -42,19 +40,11 @@ impl ResolvingList {
     {
         let mut octets = self.octets;
         let n = self.count;
-        let entry = [
-            identity[0],
-            identity[1],
-            identity[2],
-            identity[3],
-            identity[4],
-            identity[5],
-            identity[6],
-            0,
-        ];
-        let count = n + 1;
-        octets::put(&mut octets, n * 8, &entry);
-        ResolvingList { octets, count }
+        octets::put_two(&mut octets, n * 8, &identity, &[0]);
+        ResolvingList {
+            octets,
+            count: n + 1,
+        }
     }
 
     // Removes the entry with this identity.
@@ -64,10 +54,9 @@ impl ResolvingList {
     {
         let mut octets = self.octets;
         let n = self.count;
-        let place = place_of(&octets, 8, n, identity);
-        if n <= place {
+        let Some(place) = place_of(&octets, 8, n, identity) else {
             return self;
-        }
+        };
         cut(&mut octets, 8, n, place);
         ResolvingList {
             octets,
@@ -82,10 +71,9 @@ impl ResolvingList {
     {
         let mut octets = self.octets;
         let n = self.count;
-        let place = place_of(&octets, 8, n, identity);
-        if n <= place {
+        let Some(place) = place_of(&octets, 8, n, identity) else {
             return self;
-        }
+        };
         octets[place * 8 + 7] = mode;
         ResolvingList { octets, count: n }
     }
@@ -96,7 +84,9 @@ pub fn identity(p: &[u8]) -> [u8; 7]
     requires { 7 ≤ length p.now }
     ensures { result ≡ take 7 p.now }
 {
-    [p[0], p[1], p[2], p[3], p[4], p[5], p[6]]
+    let mut identity = [0; 7];
+    identity.copy_from_slice(&p[..7]);
+    identity
 }
 
 // Whether all identities differ (question 3).
@@ -104,10 +94,5 @@ pub fn identities_differ(list: ResolvingList) -> bool
     requires { list.count ≤ 16 }
     ensures { result ≡ identities_differ (resolving_entries list) }
 {
-    let n = list.count;
-    if n < 2 {
-        return true;
-    }
-    let octets = list.octets;
-    entries_differ(&octets, 8, n)
+    list.count < 2 || entries_differ(&list.octets, 8, list.count)
 }

@@ -1,57 +1,34 @@
 -- What feeding a stream does to its buffer: the laws by which `feed` meets its contract, and what a caller has from that
 -- contract. For `feed` and its callers.
+use Rattle.std.specs.Prelude.{Result, Ok, Err}
+use Rattle.std.specs.Result.{result_unwrap_or}
 use mathlib.Core.Path.{◌≡◌, refl, sym, ap, subst, ◌∙◌}
+use mathlib.Core.Logic.{⊎_elim}
 use mathlib.Core.List.{List, [], ◌∷◌, ◌++◌, flatten}
-use mathlib.Core.Bool.{Bool, true, false, ◌&&◌}
-use Prim.Native.Nat.{ℕ, ◌+◌, ◌-◌, ◌≤◌, ◌<◌}
+use mathlib.Core.Bool.{Bool, true, false}
+use Prim.Native.Nat.{ℕ, ◌+◌, ◌-◌, ◌≤◌}
+use native.Mathlib.Numerals.{unary_clauses}
 use native.Mathlib.Omega.{arith}
 use lib.ListN.{length, take, drop, length-append, length-take, length-drop}
 use lib.Seq.{take-append-le, drop-append-le, take_at, length-take-le}
-use lib.Dec.{leb}
-use borrow.Author.Tests.{le-leb, lt-leb}
+use borrow.Author.Tests.{le-leb}
 use Rattle.octets.specs.Octets.{Put}
 use Rattle.octets.proofs.Writing.{put_then, splice_front}
-use Rattle.h4.specs.declared.PacketLen.{PacketLen}
-use Rattle.h4.specs.declared.PacketLen.TheVariants.{Packet, More, Undefined}
-use Rattle.h4.specs.declared.Fed.{Fed}
-use Rattle.h4.specs.declared.Fed.TheVariants.{Packets, Lost, NoRoom}
 use Rattle.h4.specs.declared.H4Stream.{H4Stream}
 use Rattle.h4.specs.declared.FedStream.{FedStream}
-use Rattle.h4.specs.Framing.{ArePackets, packet_length, packets, rest, whole_octets, framed_at, framed, packet_at}
+use Rattle.h4.specs.Framing.{ArePackets, packets, rest, whole_octets, framed, packet_at}
 use Rattle.h4.specs.Stream.{held_octets, fits, stream_of, Feeds}
 use Rattle.h4.proofs.Splitting.{packets_octets, octets_le, packets_are}
-use Rattle.h4.proofs.Losing.{framed_count}
+use Rattle.h4.proofs.Losing.{framed_answers, framed_count}
 use Rattle.h4.proofs.Handing.{packet_after, packet_past, one_of}
+use Rattle.h4.specs.declared.StreamError.{StreamError}
+use Rattle.h4.specs.declared.StreamError.TheVariants.{Undefined, NoRoom}
 
 -- How `feed` meets its contract
 
--- what the stream holds and the new octets have room
-fits_yes : (s : H4Stream) (buffer bytes : List ℕ) → s.ready + s.held ≤ length buffer → s.held + length bytes ≤ length buffer → fits s buffer bytes ≡ true
-fits_yes s buffer bytes h k = rw (le-leb (s.ready + s.held) (length buffer) h) (le-leb (s.held + length bytes) (length buffer) k)
-
--- no room, and nothing changes
-refused : (s : H4Stream) (buffer bytes : List ℕ) → fits s buffer bytes ≡ false → Feeds s buffer bytes (record { stream = s; answer = NoRoom }) buffer
-refused s buffer bytes f = record { answers = rw f; stream = rw f; leaves = rw f }
-
--- the buffer does not hold what the stream says is in it
-pub no_room_held : (s : H4Stream) (buffer bytes : List ℕ) → length buffer < s.ready + s.held → Feeds s buffer bytes (record { stream = s; answer = NoRoom }) buffer
-no_room_held s buffer bytes h = refused s buffer bytes (rw (lt-leb (s.ready + s.held) (length buffer) h))
-
--- it does not hold the octets that wait with the new ones behind them
-pub no_room_new : (s : H4Stream) (buffer bytes : List ℕ) → length buffer < s.held + length bytes → Feeds s buffer bytes (record { stream = s; answer = NoRoom }) buffer
-no_room_new s buffer bytes h = refused s buffer bytes (go (leb (s.ready + s.held) (length buffer))) where
-  go : (t : Bool) → (t && leb (s.held + length bytes) (length buffer)) ≡ false
-  go true = lt-leb (s.held + length bytes) (length buffer) h
-  go false = refl
-
 -- framing never answers that there is no room
-framed_room : (p : List ℕ) → framed p ≡ NoRoom → ⊥
-unfolding framed
-framed_room p = go (packet_length (rest p)) where
-  go : (r : PacketLen) → framed_at r (whole_octets p) ≡ NoRoom → ⊥
-  go (Packet n) e = let z : ◌≡◌ {A = ℕ} 0 1 = cc in omega arith
-  go More e = let z : ◌≡◌ {A = ℕ} 0 1 = cc in omega arith
-  go (Undefined i) e = let z : ◌≡◌ {A = ℕ} 0 1 = cc in omega arith
+framed_room : (p : List ℕ) → framed p ≡ Err NoRoom → ⊥
+framed_room p e = ⊎_elim (λ n. cc) (λ i. let l = i.1 in cc) (framed_answers p)
 
 -- the octets that stand at the front of the buffer after they were written there
 written : {buffer p after : List ℕ} {end : ℕ} → Put buffer 0 p end after → take end after ≡ p
@@ -64,48 +41,42 @@ pub held_long : (s : H4Stream) (buffer : List ℕ) → s.ready + s.held ≤ leng
 held_long s buffer h = length-take-le s.held (drop s.ready buffer) (simp length-drop (omega arith))
 
 -- the packets end within the octets that were framed
-pub packets_within : (p : List ℕ) (end n : ℕ) (a : Fed) → a ≡ framed (take end p) → a ≡ Packets n → n ≤ end
-packets_within p end n a e k =
-    let count : n ≡ whole_octets (take end p) = framed_count (take end p) n (sym e ∙ k) in
-    omega (arith, octets_le (take end p), length-take end p)
+pub packets_within : (p : List ℕ) (end : ℕ) (a : Result ℕ StreamError) → a ≡ framed (take end p) → result_unwrap_or a 0 ≤ end
+packets_within p end (Ok n) e = omega (arith, framed_count (take end p) n (sym e), octets_le (take end p), length-take end p)
+packets_within p end (Err r) e = omega arith
+
+-- what is after the packets is held, and where there is none to hand out all is
+stream_left : (a : Result ℕ StreamError) (p : List ℕ)
+    → record { ready = result_unwrap_or a 0; held = length p - result_unwrap_or a 0 } ≡ stream_of a p
+stream_left (Ok n) p = refl
+stream_left (Err r) p = simp unary_clauses
 
 -- both have room: the octets that wait and the new ones behind them are framed
-module _ (s : H4Stream) (buffer bytes : List ℕ) {at end : ℕ} {moved after : List ℕ} (one : Put buffer 0 (held_octets s buffer) at moved)
-    (two : Put moved at bytes end after) (room : s.ready + s.held ≤ length buffer) where
-  both : Put buffer 0 (held_octets s buffer ++ bytes) end after
-  both = put_then one two
-
-  room_new : s.held + length bytes ≤ length buffer
-  room_new = omega (arith, both.room, held_long s buffer room, length-append (held_octets s buffer) bytes)
-
-  taken : (a : Fed) → a ≡ framed (take end after) → Feeds s buffer bytes (record { stream = stream_of a (held_octets s buffer ++ bytes); answer = a }) after
-  taken a e =
-      let f : fits s buffer bytes ≡ true = fits_yes s buffer bytes room room_new in
-      let g : a ≡ framed (held_octets s buffer ++ bytes) = e ∙ ap framed (written both) in
-      record {
-        answers = rw f g;
-        stream = rw f (ap (λ (x : Fed). stream_of x (held_octets s buffer ++ bytes)) g);
-        leaves = rw f both.leaves;
-      }
-
-  long : length (held_octets s buffer ++ bytes) ≡ end
-  long = omega (arith, both.next)
-
-  -- the code's two arms: what is after the packets is held, and where there is none to hand out all is
-  pub taken_packets : (a : Fed) (n held : ℕ) → a ≡ framed (take end after) → a ≡ Packets n → held ≡ end - n
-      → Feeds s buffer bytes (record { stream = record { ready = n; held = held }; answer = Packets n }) after
-  taken_packets a n held e k h = rw (h ∙ ap (λ (m : ℕ). m - n) (sym long)) (taken (Packets n) (sym k ∙ e))
-
-  pub taken_other : (a : Fed) (held : ℕ) → a ≡ framed (take end after) → ((n : ℕ) → a ≡ Packets n → ⊥) → held ≡ end
-      → Feeds s buffer bytes (record { stream = record { ready = 0; held = held }; answer = a }) after
-  taken_other (Packets n) held e f h = absurd (f n refl)
-  taken_other (Lost i) held e f h = rw (h ∙ sym long) (taken (Lost i) e)
-  taken_other NoRoom held e f h = rw (h ∙ sym long) (taken NoRoom e)
+pub taken : (s : H4Stream) (buffer bytes : List ℕ) {at end : ℕ} {moved after : List ℕ} (a : Result ℕ StreamError) {ready : ℕ}
+    → Put buffer 0 (held_octets s buffer) at moved → Put moved at bytes end after → s.ready + s.held ≤ length buffer
+    → a ≡ framed (take end after)
+    → ready ≡ result_unwrap_or a 0
+    → Feeds s buffer bytes (record { stream = record { ready = ready; held = end - ready }; answer = a }) after
+taken s buffer bytes {at} {end} {moved} {after} a {ready} one two room e r =
+    let p : List ℕ = held_octets s buffer ++ bytes in
+    let both : Put buffer 0 p end after = put_then one two in
+    let long : end ≡ length p = omega (arith, both.next) in
+    let room_new : s.held + length bytes ≤ length buffer =
+    omega (arith, both.room, held_long s buffer room, length-append (held_octets s buffer) bytes) in
+    let f : fits s buffer bytes ≡ true =
+    rw (le-leb (s.ready + s.held) (length buffer) room, le-leb (s.held + length bytes) (length buffer) room_new) in
+    let g : a ≡ framed p = e ∙ ap framed (written both) in
+    record {
+      answers = rw f g;
+      stream = rw (f, r, long, ← g) (stream_left a p);
+      leaves = rw f both.leaves;
+    }
 
 -- What a caller has from the contract
 
 -- the stream had no room: nothing changes
-pub fed_no_room : {s : H4Stream} {buffer bytes after : List ℕ} {r : FedStream} → Feeds s buffer bytes r after → r.answer ≡ NoRoom
+pub fed_no_room : {s : H4Stream} {buffer bytes after : List ℕ} {r : FedStream} → Feeds s buffer bytes r after
+    → r.answer ≡ Err NoRoom
     → (r.stream ≡ s) × (after ≡ buffer)
 fed_no_room {s} {buffer} {bytes} {after} {r} f e = go (fits s buffer bytes) refl where
   go : (t : Bool) → fits s buffer bytes ≡ t → (r.stream ≡ s) × (after ≡ buffer)
@@ -120,7 +91,8 @@ pub record Taken (s : H4Stream) (buffer bytes : List ℕ) (r : FedStream) (after
   pub stream : r.stream ≡ stream_of r.answer (held_octets s buffer ++ bytes)
   pub leaves : after ≡ (held_octets s buffer ++ bytes) ++ drop (length (held_octets s buffer ++ bytes)) buffer
 
-pub fed_taken : {s : H4Stream} {buffer bytes after : List ℕ} {r : FedStream} → Feeds s buffer bytes r after → (r.answer ≡ NoRoom → ⊥)
+pub fed_taken : {s : H4Stream} {buffer bytes after : List ℕ} {r : FedStream} → Feeds s buffer bytes r after
+    → (r.answer ≡ Err NoRoom → ⊥)
     → Taken s buffer bytes r after
 fed_taken {s} {buffer} {bytes} {after} {r} f n = go (fits s buffer bytes) refl where
   p : List ℕ
@@ -133,9 +105,9 @@ fed_taken {s} {buffer} {bytes} {after} {r} f n = go (fits s buffer bytes) refl w
   go false h = absurd (n (f.answers ∙ rw h))
 
 -- packets: the first n octets of the buffer are the packets, and what waits is the rest
-module _ {s : H4Stream} {buffer bytes after : List ℕ} {r : FedStream} (f : Feeds s buffer bytes r after) (n : ℕ) (e : r.answer ≡ Packets n) where
+module _ {s : H4Stream} {buffer bytes after : List ℕ} {r : FedStream} (f : Feeds s buffer bytes r after) (n : ℕ) (e : r.answer ≡ Ok n) where
   packets_taken : Taken s buffer bytes r after
-  packets_taken = fed_taken f (λ k. let z : ◌≡◌ {A = ℕ} 0 1 = cc in omega arith)
+  packets_taken = fed_taken f (λ k. cc)
 
   count : n ≡ whole_octets (held_octets s buffer ++ bytes)
   count = framed_count (held_octets s buffer ++ bytes) n (sym packets_taken.answers ∙ e)
@@ -166,7 +138,8 @@ module _ {s : H4Stream} {buffer bytes after : List ℕ} {r : FedStream} (f : Fee
       ∙ ap (λ (m : ℕ). drop m p) count
 
   -- `packet_at` hands out each of them at the index where those before it end
-  pub fed_hands_out : (ps : List (List ℕ)) (q : List ℕ) (qs : List (List ℕ)) → packets (held_octets s buffer ++ bytes) ≡ ps ++ q ∷ qs
+  pub fed_hands_out : (ps : List (List ℕ)) (q : List ℕ) (qs : List (List ℕ))
+      → packets (held_octets s buffer ++ bytes) ≡ ps ++ q ∷ qs
       → packet_at (take r.stream.ready after) (length (flatten ps)) ≡ q
   fed_hands_out ps q qs h =
       let one = one_of ps q qs (subst ArePackets h (packets_are (held_octets s buffer ++ bytes))) in
@@ -180,9 +153,9 @@ module _ {s : H4Stream} {buffer bytes after : List ℕ} {r : FedStream} (f : Fee
       packet_past (take r.stream.ready after) i (omega (arith, length-take r.stream.ready after, fed_ready))
 
 -- framing lost: all the octets stay, and there is nothing to hand out
-module _ {s : H4Stream} {buffer bytes after : List ℕ} {r : FedStream} (f : Feeds s buffer bytes r after) (i : ℕ) (e : r.answer ≡ Lost i) where
+module _ {s : H4Stream} {buffer bytes after : List ℕ} {r : FedStream} (f : Feeds s buffer bytes r after) (i : ℕ) (e : r.answer ≡ Err (Undefined i)) where
   lost_taken : Taken s buffer bytes r after
-  lost_taken = fed_taken f (λ k. let z : ◌≡◌ {A = ℕ} 0 1 = cc in omega arith)
+  lost_taken = fed_taken f (λ k. cc)
 
   lost_stream : r.stream ≡ record { ready = 0; held = length (held_octets s buffer ++ bytes) }
   lost_stream = lost_taken.stream ∙ rw e

@@ -16,15 +16,11 @@ flatten_append [] qs = refl
 flatten_append (p ∷ ps) qs = ap (◌++◌ p) (flatten_append ps qs) ∙ sym (append_assoc p (flatten ps) (flatten qs))
 
 -- the packet that starts where the ones before it end
-pub packet_after : (ps : List (List ℕ)) (q : List ℕ) (qs : List (List ℕ)) → IsPacket q → packet_at (flatten (ps ++ q ∷ qs)) (length (flatten ps)) ≡ q
+pub packet_after : (ps : List (List ℕ)) (q : List ℕ) (qs : List (List ℕ)) → IsPacket q
+    → packet_at (flatten (ps ++ q ∷ qs)) (length (flatten ps)) ≡ q
 unfolding flatten
 packet_after ps q qs e =
     rw (flatten_append ps (q ∷ qs), drop-append_seam (flatten ps) (q ++ flatten qs), whole_front q (flatten qs) e) (take-append_seam q (flatten qs))
-
--- so the first one starts at index 0
-pub packet_first : (q : List ℕ) (qs : List (List ℕ)) → IsPacket q → packet_at (flatten (q ∷ qs)) 0 ≡ q
-unfolding flatten
-packet_first q qs e = packet_after [] q qs e
 
 -- past the last there is none
 pub packet_past : (p : List ℕ) (i : ℕ) → length p ≤ i → packet_at p i ≡ []
@@ -44,5 +40,6 @@ drop_of_take n i end p e h =
     sym (ap (take (end - i)) (ap (drop i) (sym (take-append-drop n p)) ∙ whole) ∙ take_at (drop i (take n p)) (drop n p) (end - i) long)
 
 -- so the packet at their front is the one that starts at index i
-pub packet_lent : (n i end : ℕ) (p : List ℕ) → end ≡ min n (length p) → i ≤ end → packet_at (take (end - i) (drop i p)) 0 ≡ packet_at (take n p) i
+pub packet_lent : (n i end : ℕ) (p : List ℕ) → end ≡ min n (length p) → i ≤ end
+    → packet_at (take (end - i) (drop i p)) 0 ≡ packet_at (take n p) i
 packet_lent n i end p e h = ap (λ (q : List ℕ). packet_at q 0) (sym (drop_of_take n i end p e h))

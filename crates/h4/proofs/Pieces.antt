@@ -1,14 +1,15 @@
 -- The stream in pieces: however the octets are cut into pieces, feeding the pieces one after the other hands out the
 -- packets that feeding them whole would, and leaves the same octets waiting. For hosts that read a stream.
+use Rattle.std.specs.Prelude.{Err}
 use mathlib.Core.Path.{◌≡◌, refl, sym, ap, ◌∙◌}
 use mathlib.Core.List.{List, [], ◌∷◌, ◌++◌, flatten, append_assoc, append-nil}
 use mathlib.Core.Bool.{Bool, true, false, cond}
 use Prim.Native.Nat.{ℕ}
-use Rattle.h4.specs.declared.Fed.TheVariants.{Lost}
 use Rattle.h4.specs.Framing.{packet_length, whole, packets, rest, framed}
 use Rattle.h4.specs.Stream.{is_lost, lost, handed_out, waiting, handed_out_all, waiting_all}
 use Rattle.h4.proofs.Splitting.{packets_append, rest_append, whole_rest, packets_none, rest_none, none_there}
 use Rattle.h4.proofs.Losing.{framed_undefined, undefined_framed, lost_append, lost_by_rest, lost_at}
+use Rattle.h4.specs.declared.StreamError.TheVariants.{Undefined}
 
 -- One piece fed to a stream in which p waits, with more octets to come
 
@@ -56,7 +57,8 @@ waiting_rest p (bytes ∷ more) =
     waiting_rest (waiting p bytes) more ∙ waiting_then p bytes (flatten more) ∙ ap rest (append_assoc p bytes (flatten more))
 
 -- where framing is not lost, no whole packet waits
-pub waiting_whole : (p : List ℕ) (parts : List (List ℕ)) → whole p ≡ 0 → lost (p ++ flatten parts) ≡ false → whole (waiting_all p parts) ≡ 0
+pub waiting_whole : (p : List ℕ) (parts : List (List ℕ)) → whole p ≡ 0 → lost (p ++ flatten parts) ≡ false
+    → whole (waiting_all p parts) ≡ 0
 unfolding waiting_all flatten waiting
 waiting_whole p [] w e = w
 waiting_whole p (bytes ∷ more) w e =
@@ -86,7 +88,8 @@ pub pieces : (parts : List (List ℕ)) → lost (flatten parts) ≡ false
 pieces parts e = pieces_from [] parts none_there e
 
 -- where framing is lost in the whole, it is lost in what waits after the pieces, at the same indicator
-pub pieces_lost : (parts : List (List ℕ)) (i : ℕ) → framed (flatten parts) ≡ Lost i → framed (waiting_all [] parts) ≡ Lost i
+pub pieces_lost : (parts : List (List ℕ)) (i : ℕ) → framed (flatten parts) ≡ Err (Undefined i)
+    → framed (waiting_all [] parts) ≡ Err (Undefined i)
 pieces_lost parts i e = undefined_framed (waiting_all [] parts) i (ap packet_length (waiting_rest [] parts) ∙ framed_undefined (flatten parts) i e)
 
 -- and in every case the packets handed out are the first ones of the whole
@@ -99,13 +102,13 @@ pieces_first parts = handed_out_first [] parts
 pub record LostFor (p : List ℕ) (parts : List (List ℕ)) (i : ℕ) : Type 0 where
   pub nothing : handed_out_all p parts ≡ []
   pub waits : waiting_all p parts ≡ p ++ flatten parts
-  pub lost : framed (p ++ flatten parts) ≡ Lost i
+  pub lost : framed (p ++ flatten parts) ≡ Err (Undefined i)
 
-pub lost_for_good : (p : List ℕ) (parts : List (List ℕ)) (i : ℕ) → framed p ≡ Lost i → LostFor p parts i
+pub lost_for_good : (p : List ℕ) (parts : List (List ℕ)) (i : ℕ) → framed p ≡ Err (Undefined i) → LostFor p parts i
 unfolding handed_out_all waiting_all handed_out waiting flatten
 lost_for_good p [] i e = record { nothing = refl; waits = sym (append-nil p); lost = ap framed (append-nil p) ∙ e }
 lost_for_good p (bytes ∷ more) i e =
-    let l : framed (p ++ bytes) ≡ Lost i = lost_append p bytes i e in
+    let l : framed (p ++ bytes) ≡ Err (Undefined i) = lost_append p bytes i e in
     let t : is_lost (framed (p ++ bytes)) ≡ true = ap is_lost l in
     let h = lost_for_good (p ++ bytes) more i l in
     let assoc = append_assoc p bytes (flatten more) in

@@ -31,7 +31,8 @@ upto_none zero p e = refl
 upto_none (suc n) p e = rw (eq-eqb (whole p) 0 e)
 
 -- two counters that agree behind the packet at the front agree
-upto_again : (n m : ℕ) (p : List ℕ) → ((whole p ≡ 0 → ⊥) → packets_up_to n (drop (whole p) p) ≡ packets_up_to m (drop (whole p) p))
+upto_again : (n m : ℕ) (p : List ℕ)
+    → ((whole p ≡ 0 → ⊥) → packets_up_to n (drop (whole p) p) ≡ packets_up_to m (drop (whole p) p))
     → packets_up_to (suc n) p ≡ packets_up_to (suc m) p
 unfolding packets_up_to
 upto_again n m p f = go (eqb (whole p) 0) refl where
@@ -127,13 +128,6 @@ packets_are = by_packets (λ p. ArePackets (packets p)) (λ p e. rw (packets_non
 -- the rest holds no whole packet
 pub whole_rest : (p : List ℕ) → whole (rest p) ≡ 0
 whole_rest = by_packets (λ p. whole (rest p) ≡ 0) (λ p e. ap whole (rest_none p e) ∙ e) (λ p q e h. ap whole (rest_front p q e) ∙ h)
-
--- so splitting it again gives nothing
-pub packets_of_rest : (p : List ℕ) → packets (rest p) ≡ []
-packets_of_rest p = packets_none (rest p) (whole_rest p)
-
-pub rest_of_rest : (p : List ℕ) → rest (rest p) ≡ rest p
-rest_of_rest p = rest_none (rest p) (whole_rest p)
 
 -- octets behind: the packets that were whole stay, and the rest is split with what comes behind it
 pub packets_append : (p q : List ℕ) → packets (p ++ q) ≡ packets p ++ packets (rest p ++ q)

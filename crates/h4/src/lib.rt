@@ -3,9 +3,8 @@
 // of octets. Contracts cite `specs/`.
 #![tactic(auto)]
 
-ghost use Rattle.std.specs.Prelude.{◌≡◌, ◌+◌, ◌-◌, ◌%◌, ◌≤◌, ◌<◌, length, take};
-ghost use Rattle.octets.specs.Octets.{octet, word};
-ghost use Rattle.h4.specs.Framing.{packet_length, measured, framed, packet_at};
+ghost use Rattle.std.specs.Prelude.{◌≡◌, take};
+ghost use Rattle.h4.specs.Framing.{packet_length, framed, packet_at};
 ghost use Rattle.h4.specs.Stream.{Feeds};
 
 // Packet indicators (Core Vol 4 Part A section 2).
@@ -22,89 +21,41 @@ pub const H4_ISO: u8 = 0x05;
 // The longest packet: the length fields of ACL and ISO data are 16 bits wide.
 pub const H4_MAX_PACKET: usize = 5 + 0xFFFF;
 
-// What the octets at the front of a stream say: a packet of so many octets, too few octets to tell, or an indicator
-// that is not defined, after which framing is lost.
+// Why octets are not cut into packets: an indicator that is not defined, after which framing is lost, or a buffer that has no
+// room for them.
 #[derive(Clone, Copy)]
-pub enum PacketLen {
-    Packet(usize),
-    More,
+pub enum StreamError {
     Undefined(u8),
-}
-
-// How many octets the packet at the front takes, its indicator counted.
-pub fn h4_packet_len(bytes: &[u8]) -> PacketLen
-    ensures { result ≡ packet_length bytes.now }
-{
-    if bytes.len() == 0 {
-        return PacketLen::More;
-    }
-    let indicator = bytes[0];
-    match indicator {
-        H4_COMMAND => with_length_octet(bytes, 4),
-        H4_ACL => with_length_word(bytes, 65536),
-        H4_SCO => with_length_octet(bytes, 4),
-        H4_EVENT => with_length_octet(bytes, 3),
-        H4_ISO => with_length_word(bytes, 16384),
-        other => PacketLen::Undefined(other),
-    }
-}
-
-// A packet whose header ends in a length of one octet.
-fn with_length_octet(bytes: &[u8], header: usize) -> PacketLen
-    requires { (1 ≤ header) × (header ≤ 4) }
-    ensures { result ≡ measured bytes.now header (octet bytes.now (header - 1)) }
-{
-    if bytes.len() < header {
-        return PacketLen::More;
-    }
-    PacketLen::Packet(header + wide(bytes[header - 1]))
-}
-
-// A packet whose header of five octets ends in a length of two octets, of which the bits below limit count.
-fn with_length_word(bytes: &[u8], limit: usize) -> PacketLen
-    requires { (1 ≤ limit) × (limit ≤ 65536) }
-    ensures { result ≡ measured bytes.now 5 (word bytes.now 3 % limit) }
-{
-    if bytes.len() < 5 {
-        return PacketLen::More;
-    }
-    let length = octets::word_at(bytes, 3) as usize;
-    PacketLen::Packet(5 + length % limit)
-}
-
-fn wide(x: u8) -> usize
-    ensures { (result ≡ x) × (result < 256) }
-{
-    x as usize
-}
-
-// What feeding a stream answers: the first so many octets of the buffer are whole packets, end to end and oldest first;
-// or framing is lost at an undefined indicator; or the buffer has no room for them, and nothing has changed.
-#[derive(Clone, Copy)]
-pub enum Fed {
-    Packets(usize),
-    Lost(u8),
     NoRoom,
 }
 
-// Frames octets from their front.
-fn frame(bytes: &[u8]) -> Fed
+// How many octets the packet at the front takes, its indicator counted; None where there are too few octets to tell.
+#[tactic(auto, unfolding(crate::specs::Framing::packet_length, crate::specs::Framing::by_indicator))]
+pub fn h4_packet_len(bytes: &[u8]) -> Result<Option<usize>, StreamError>
+    ensures { result ≡ packet_length bytes.now }
+{
+    let n = match bytes {
+        [H4_COMMAND | H4_SCO, _, _, length, ..] => 4 + usize::from(*length),
+        [H4_EVENT, _, length, ..] => 3 + usize::from(*length),
+        [H4_ACL, _, _, low, high, ..] => 5 + usize::from(u16::from_le_bytes([*low, *high])),
+        [H4_ISO, _, _, low, high, ..] => 5 + usize::from(u16::from_le_bytes([*low, *high]) % 16384),
+        [] | [H4_COMMAND..=H4_ISO, ..] => return Ok(None),
+        [other, ..] => return Err(StreamError::Undefined(*other)),
+    };
+    Ok(Some(n))
+}
+
+// Frames octets from their front: how many of them are whole packets. The step is a packet's length, so it is no `for`.
+fn frame(bytes: &[u8]) -> Result<usize, StreamError>
     ensures { result ≡ framed bytes.now }
 {
     let mut at = 0;
-    while at < bytes.len() {
-        match h4_packet_len(&bytes[at..]) {
-            PacketLen::Packet(n) => {
-                if bytes.len() - at < n {
-                    return Fed::Packets(at);
-                }
-                at += n;
-            }
-            PacketLen::More => return Fed::Packets(at),
-            PacketLen::Undefined(indicator) => return Fed::Lost(indicator),
-        }
+    while let Some(n) = h4_packet_len(&bytes[at..])?
+        && n <= bytes.len() - at
+    {
+        at += n;
     }
-    Fed::Packets(at)
+    Ok(at)
 }
 
 // A stream over a buffer that the caller lends to each call: the first `ready` octets of the buffer are the packets of the
@@ -116,10 +67,12 @@ pub struct H4Stream {
     pub held: usize,
 }
 
+// The stream after a feed, and its answer: the first so many octets of the buffer are whole packets, end to end and oldest
+// first; or framing is lost at an undefined indicator; or the buffer has no room for them, and nothing has changed.
 #[derive(Clone, Copy)]
 pub struct FedStream {
     pub stream: H4Stream,
-    pub answer: Fed,
+    pub answer: Result<usize, StreamError>,
 }
 
 impl H4Stream {
@@ -144,42 +97,22 @@ impl H4Stream {
         let ready = self.ready;
         let held = self.held;
         let room = buffer.len();
-        if room < ready {
+        if room < ready || room - ready < held || room - held < bytes.len() {
             return FedStream {
                 stream: self,
-                answer: Fed::NoRoom,
-            };
-        }
-        if room - ready < held {
-            return FedStream {
-                stream: self,
-                answer: Fed::NoRoom,
-            };
-        }
-        if room - held < bytes.len() {
-            return FedStream {
-                stream: self,
-                answer: Fed::NoRoom,
+                answer: Err(StreamError::NoRoom),
             };
         }
         let at = octets::move_to_front(buffer, ready, held);
         let end = octets::put(buffer, at, bytes);
         let answer = frame(&buffer[..end]);
-        match answer {
-            Fed::Packets(n) => FedStream {
-                stream: H4Stream {
-                    ready: n,
-                    held: end - n,
-                },
-                answer: Fed::Packets(n),
+        let ready = answer.unwrap_or(0);
+        FedStream {
+            stream: H4Stream {
+                ready,
+                held: end - ready,
             },
-            other => FedStream {
-                stream: H4Stream {
-                    ready: 0,
-                    held: end,
-                },
-                answer: other,
-            },
+            answer,
         }
     }
 
@@ -188,7 +121,7 @@ impl H4Stream {
         ensures { result.now ≡ packet_at (take self.ready buffer.now) at }
     {
         let ready = self.ready;
-        let end = octets::lesser(ready, buffer.len());
+        let end = ready.min(buffer.len());
         if end <= at {
             return &buffer[..0];
         }
@@ -197,16 +130,12 @@ impl H4Stream {
 }
 
 // The packet at the front where all of it is there, else nothing.
+#[tactic(auto, unfolding(crate::specs::Framing::whole))]
 fn front_packet(bytes: &[u8]) -> &[u8]
     ensures { result.now ≡ packet_at bytes.now 0 }
 {
     match h4_packet_len(bytes) {
-        PacketLen::Packet(n) => {
-            if bytes.len() < n {
-                return &bytes[..0];
-            }
-            &bytes[..n]
-        }
+        Ok(Some(n)) if n <= bytes.len() => &bytes[..n],
         _ => &bytes[..0],
     }
 }

@@ -1,7 +1,6 @@
--- The laws of bits of masks and maps: the answers of `mask_has`, and what a map with a bit set has at each bit. For the
--- proofs of these functions and of those who build bit maps.
-use mathlib.Core.Path.{◌≡◌, refl, ap, ◌∙◌}
-use Prim.Native.Nat.{ℕ, zero, suc, ◌+◌, ◌-◌, ◌*◌, ◌/◌, ◌%◌, ◌^◌, ◌≤◌, ◌<◌, max}
+-- The laws of bits of maps: what a map with a bit set has at each bit. For the proofs of those who build bit maps.
+use mathlib.Core.Path.{◌≡◌, ap, ◌∙◌}
+use Prim.Native.Nat.{ℕ, suc, ◌+◌, ◌-◌, ◌/◌, ◌%◌, ◌^◌, ◌≤◌, ◌<◌, max}
 use mathlib.Core.List.{List}
 use mathlib.Core.Bool.{true, false, cond}
 use native.Mathlib.Omega.{arith}
@@ -12,33 +11,10 @@ use lib.Seq.{get_or-set_same, get_or-set_other}
 use lib.Pow.{pow_pos, pow-lt, pow-add}
 use lib.Bits.{bit_or, or_step, or_shr}
 use lib.Dec.{eqb}
-use borrow.Author.Tests.{le-ltb, lt-ltb, eq-eqb, ne_eqb, eqb-true, eqb-false}
+use borrow.Author.Tests.{eqb-true, eqb-false}
 use borrow.Table.Steps.{cases}
 use Rattle.octets.specs.Octets.{octet}
-use Rattle.hci.specs.Bits.{MaskHas, bit_of, with_bit, map_bit}
-use Rattle.hci.specs.declared.bits.Has.TheVariants.{Yes, No, NoSuchBit}
-
--- the three answers of `mask_has`
-pub no_such_bit : {mask bit : ℕ} → 64 ≤ bit → MaskHas mask bit NoSuchBit
-no_such_bit {mask} {bit} h = record { numbered = simp (le-ltb bit 64 h); told = simp (le-ltb bit 64 h) }
-
-pub has_bit : {mask bit : ℕ} → bit < 64 → bit_of mask bit ≡ 1 → MaskHas mask bit Yes
-has_bit {mask} {bit} h e = record { numbered = simp (lt-ltb bit 64 h); told = simp (lt-ltb bit 64 h, eq-eqb (bit_of mask bit) 1 e) }
-
-pub has_no_bit : {mask bit : ℕ} → bit < 64 → (bit_of mask bit ≡ 1 → ⊥) → MaskHas mask bit No
-has_no_bit {mask} {bit} h e = record { numbered = simp (lt-ltb bit 64 h); told = simp (lt-ltb bit 64 h, ne_eqb (bit_of mask bit) 1 e) }
-
--- what `1 << k` is in an octet
-pub one_shifted : (k : ℕ) → k < 8 → 1 * 2 ^ k % 256 ≡ 2 ^ k
-one_shifted zero s = refl
-one_shifted (suc zero) s = refl
-one_shifted (suc (suc zero)) s = refl
-one_shifted (suc (suc (suc zero))) s = refl
-one_shifted (suc (suc (suc (suc zero)))) s = refl
-one_shifted (suc (suc (suc (suc (suc zero))))) s = refl
-one_shifted (suc (suc (suc (suc (suc (suc zero)))))) s = refl
-one_shifted (suc (suc (suc (suc (suc (suc (suc zero))))))) s = refl
-one_shifted (suc (suc (suc (suc (suc (suc (suc (suc k)))))))) s = absurd (omega arith)
+use Rattle.hci.specs.Bits.{bit_of, with_bit, map_bit}
 
 -- a bit of two numbers or'ed is set where one of theirs is
 bit_or_lem : (a b k : ℕ) → bit_of (bit_or a b) k ≡ max (bit_of a k) (bit_of b k)
@@ -62,7 +38,8 @@ power_other j k n = go (dec_lt j k)
         omega (arith, d, two-pow-succ m)
 
 -- a map with bit b set has bit b, and its other bits as they were
-pub bit_set : (map : List ℕ) (b i : ℕ) → b / 8 < length map → map_bit map i ≤ 1 → map_bit (with_bit map b) i ≡ cond (eqb i b) 1 (map_bit map i)
+pub bit_set : (map : List ℕ) (b i : ℕ) → b / 8 < length map → map_bit map i ≤ 1
+    → map_bit (with_bit map b) i ≡ cond (eqb i b) 1 (map_bit map i)
 bit_set map b i h small = cases (eqb i b) here elsewhere
   where
     there : i / 8 ≡ b / 8 → map_bit (with_bit map b) i ≡ max (map_bit map i) (bit_of (2 ^ (b % 8)) (i % 8))

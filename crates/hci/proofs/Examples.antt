@@ -1,14 +1,14 @@
 -- Packets of document 01's bench lines and of Core's forms, as the definitions give them: worked examples for a reader.
+use Rattle.std.specs.Prelude.{Ok, Err}
 use mathlib.Core.Path.{◌≡◌, refl}
 use mathlib.Core.Bool.{true, false}
 use mathlib.Core.List.{[], ◌∷◌}
 use Rattle.lists.specs.Lists.{any}
 use Rattle.hci.specs.Packet.{event, complete_params, completed_params, status_params, acl, pairs}
-use Rattle.hci.specs.Read.{parse_command, parse_acl, acl_parts, acl_data}
+use Rattle.hci.specs.Read.{parse_command, parse_acl, acl_data}
 use Rattle.hci.specs.Bits.{with_bit}
 use Rattle.hci.specs.Opcode.{is_async, opcode_of}
-use Rattle.hci.specs.declared.read.CommandRead.TheVariants as command
-use Rattle.hci.specs.declared.read.AclRead.TheVariants as acl-read
+use Rattle.hci.specs.declared.read.ReadError.TheVariants.{ShortBody}
 
 -- E 040e0405030c00: Reset is answered by Command Complete with status 0
 reset_complete : event 0x0E (complete_params 5 0x0C03 (0 ∷ [])) ≡ 0x04 ∷ 0x0e ∷ 0x04 ∷ 0x05 ∷ 0x03 ∷ 0x0c ∷ 0x00 ∷ []
@@ -28,21 +28,18 @@ one_octet : acl 1 0 (0xaa ∷ []) ≡ 0x02 ∷ 0x01 ∷ 0x00 ∷ 0x01 ∷ 0x00 �
 one_octet = refl
 
 -- P 01030c00: Reset
-reset : parse_command (0x01 ∷ 0x03 ∷ 0x0c ∷ 0x00 ∷ []) ≡ command.Whole (record { opcode = 0x0C03; len = 0 })
+reset : parse_command (0x01 ∷ 0x03 ∷ 0x0c ∷ 0x00 ∷ []) ≡ Ok (record { opcode = 0x0C03; len = 0 })
 unfolding parse_command
 reset = refl
 
 -- length octet 3 with two octets (a marked case of document 01)
-short : parse_command (0x01 ∷ 0x06 ∷ 0x20 ∷ 0x03 ∷ 0x00 ∷ 0x00 ∷ []) ≡ command.ShortParameters
+short : parse_command (0x01 ∷ 0x06 ∷ 0x20 ∷ 0x03 ∷ 0x00 ∷ 0x00 ∷ []) ≡ Err ShortBody
 unfolding parse_command
 short = refl
 
 -- the flags are no part of the handle: word 0x6001 is handle 1, boundary 2, broadcast 1
-flags : acl_parts (0x02 ∷ 0x01 ∷ 0x60 ∷ 0x01 ∷ 0x00 ∷ 0xaa ∷ 0xbb ∷ []) ≡ record {
-  header = acl-read.Whole (record { handle = 1; boundary = 2; broadcast = 1; len = 1 });
-  boundary = 2;
-  broadcast = 1;
-}
+flags : parse_acl (0x02 ∷ 0x01 ∷ 0x60 ∷ 0x01 ∷ 0x00 ∷ 0xaa ∷ 0xbb ∷ [])
+    ≡ Ok (record { handle = 1; boundary = 2; broadcast = 1; len = 1 })
 unfolding parse_acl
 flags = refl
 

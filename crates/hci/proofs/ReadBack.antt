@@ -1,7 +1,8 @@
--- What `acl` writes, `acl_parts` and `acl_data` read back, whatever octets follow it; and what an opcode is made of. For
+-- What `acl` writes, `Acl::parse` and `acl_data` read back, whatever octets follow it; and what an opcode is made of. For
 -- readers who want to see that readers and writers belong together.
-use mathlib.Core.Path.{◌≡◌, refl, sym}
-use Prim.Native.Nat.{ℕ, ◌+◌, ◌*◌, ◌/◌, ◌%◌, ◌≤◌, ◌<◌}
+use Rattle.std.specs.Prelude.{Ok}
+use mathlib.Core.Path.{◌≡◌, ◌∙◌}
+use Prim.Native.Nat.{ℕ, ◌+◌, ◌-◌, ◌*◌, ◌/◌, ◌%◌, ◌≤◌, ◌<◌}
 use mathlib.Core.List.{List, ◌++◌, Memᴰ}
 use mathlib.Core.Bool.{true}
 use lib.ListN.{length, length-append}
@@ -11,10 +12,9 @@ use native.Mathlib.Omega.{arith}
 use Rattle.lists.proofs.Tests.{any_member, member_any}
 use Rattle.octets.specs.Octets.{word}
 use Rattle.hci.specs.Packet.{acl, acl_word}
-use Rattle.hci.specs.Read.{parse_acl, acl_parts, acl_data}
+use Rattle.hci.specs.Read.{parse_acl, acl_data}
 use Rattle.hci.specs.Opcode.{opcode_of, is_async, async_opcodes}
-use Rattle.hci.specs.declared.read.AclRead.TheVariants.{Whole}
-use Rattle.hci.proofs.Readers.{acl_whole}
+use borrow.Author.Tests.{le-ltb}
 
 module _ (handle boundary : ℕ) (load more : List ℕ) (fits : length load ≤ 65535) where
   abbrev packet : List ℕ
@@ -27,32 +27,31 @@ module _ (handle boundary : ℕ) (load more : List ℕ) (fits : length load ≤ 
   word_read : word packet 1 ≡ acl_word handle boundary
   word_read = omega arith
 
-  whole : Whole (record {
+  read_back : parse_acl packet ≡ Ok (record {
     handle = acl_word handle boundary % 4096;
     boundary = acl_word handle boundary / 4096 % 4;
     broadcast = acl_word handle boundary / 16384;
     len = length load;
-  }) ≡ parse_acl packet
-  whole =
+  })
+  unfolding parse_acl
+  read_back =
       let long : length load ≤ length (load ++ more) = omega (arith, length-append load more) in
-      acl_whole packet (omega arith) refl (omega arith) (sym word_read) (rw word_read) (rw word_read) (sym length_read)
+      let whole : length load ≤ length packet - 5 = omega arith in
+      simp (le-ltb (length packet) 5 (omega arith), word_read, length_read, le-ltb (length packet - 5) (length load) whole)
 
   -- the data is read back
   pub data_back : acl_data packet ≡ load
-  data_back = rw (sym whole, length_read) (take-append_seam load more)
+  data_back = rw (read_back, length_read) (take-append_seam load more)
 
   -- the handle and the boundary flag are read back, and broadcast 0
-  pub parts_back : handle < 4096 → boundary < 4 → acl_parts packet ≡ record {
-    header = Whole (record { handle = handle; boundary = boundary; broadcast = 0; len = length load });
-    boundary = boundary;
-    broadcast = 0;
-  }
+  pub parts_back : handle < 4096 → boundary < 4
+      → parse_acl packet ≡ Ok (record { handle = handle; boundary = boundary; broadcast = 0; len = length load })
   parts_back h b =
       let w : acl_word handle boundary % 4096 ≡ handle = omega arith in
       let q : acl_word handle boundary / 4096 ≡ boundary % 4 = omega arith in
       let f : acl_word handle boundary / 4096 % 4 ≡ boundary = rw q (omega arith) in
       let g : acl_word handle boundary / 16384 ≡ 0 = omega arith in
-      rw (sym whole, word_read, w, f, g)
+      read_back ∙ rw (w, f, g)
 
 -- the opcode of a group below 64 and a command below 1,024 (Core Vol 4 Part E section 5.4.1)
 pub opcode_parts : (ogf ocf : ℕ) → ogf < 64 → ocf < 1024 → opcode_of ogf ocf ≡ ogf * 1024 + ocf

@@ -1,28 +1,26 @@
 -- Bits of masks and of bit maps. For callers of `mask_has` and `set_bit`.
-use Rattle.std.specs.Prelude.{◌≡◌, ℕ, ◌/◌, ◌%◌, ◌^◌, List, Bool, true, false, cond, ◌&&◌, set, ltb, eqb}
+use Rattle.std.specs.Prelude.{◌≡◌, ℕ, ◌/◌, ◌%◌, ◌^◌, List, Result, Ok, Err, Bool, false, cond, ◌&&◌, set, ltb, eqb}
 use Rattle.std.specs.Int.Bits.{bit_or}
 use Rattle.octets.specs.Octets.{octet}
-use Rattle.hci.specs.declared.bits.Has.{Has}
-use Rattle.hci.specs.declared.bits.Has.TheVariants.{Yes, No, NoSuchBit}
+use Rattle.hci.specs.declared.bits.MaskError.{MaskError}
+use Rattle.hci.specs.declared.bits.MaskError.TheVariants.{NoSuchBit}
 
 -- bit k of a number
 abbrev pub bit_of : ℕ → ℕ → ℕ
 bit_of n k = n / 2 ^ k % 2
 
 -- document 01's number of an answer (question 10)
-abbrev pub number : Has → ℕ
-number Yes = 0
-number No = 0
-number NoSuchBit = 10
+abbrev pub number : Result Bool MaskError → ℕ
+number (Ok has) = 0
+number (Err NoSuchBit) = 10
 
 -- what it says of the bit
-abbrev pub says : Has → Bool
-says Yes = true
-says No = false
-says NoSuchBit = false
+abbrev pub says : Result Bool MaskError → Bool
+says (Ok has) = has
+says (Err NoSuchBit) = false
 
 -- the answer r of `mask_has`: a bit of 64 or more is refused, any other is told
-pub record MaskHas (mask bit : ℕ) (r : Has) : Type 0 where
+pub record MaskHas (mask bit : ℕ) (r : Result Bool MaskError) : Type 0 where
   pub numbered : number r ≡ cond (ltb bit 64) 0 10
   pub told : says r ≡ (ltb bit 64 && eqb (bit_of mask bit) 1)
 

@@ -3,22 +3,21 @@
 // cites a definition of `specs/`.
 #![tactic(auto)]
 
-ghost use Rattle.std.specs.Prelude.{◌≡◌, ◌*◌, ◌%◌, eqb};
-ghost use Rattle.lists.specs.Lists.{first_at};
+ghost use Rattle.std.specs.Prelude.{◌≡◌, ◌==◌, position};
 ghost use Rattle.hci.specs.Opcode.{opcode_of, is_async};
 
 mod bits;
 mod read;
 mod write;
 
-pub use bits::{Has, mask_has, set_bit};
+pub use bits::{MaskError, mask_has, set_bit};
 pub use h4::{
-    Fed, FedStream, H4_ACL, H4_COMMAND, H4_EVENT, H4_ISO, H4_MAX_PACKET, H4_SCO, H4Stream,
-    PacketLen, h4_packet_len,
+    FedStream, H4_ACL, H4_COMMAND, H4_EVENT, H4_ISO, H4_MAX_PACKET, H4_SCO, H4Stream, StreamError,
+    h4_packet_len,
 };
-pub use read::{Acl, AclParts, AclRead, Command, CommandRead, acl_data, acl_parts};
+pub use read::{Acl, Command, ReadError, acl_data};
 pub use write::{
-    Written, acl, command_complete, command_status, event, le_meta, number_of_completed_packets,
+    WriteError, acl, command_complete, command_status, event, le_meta, number_of_completed_packets,
 };
 
 // Event codes (Core Vol 4 Part E section 7.7).
@@ -134,19 +133,12 @@ pub const ASYNC_OPCODES: [u16; 52] = [
 pub fn is_async(op: u16) -> bool
     ensures { result ≡ is_async op }
 {
-    first_opcode(&ASYNC_OPCODES, op) < 52
+    ASYNC_OPCODES.contains(&op)
 }
 
-// The place of the first opcode of a list that is op, or the list's length where none is.
-pub fn first_opcode(list: &[u16], op: u16) -> usize
-    ensures { result ≡ first_at (λ x. eqb x op) list.now }
+// The place of the first opcode of a list that is op.
+pub fn first_opcode(list: &[u16], op: u16) -> Option<usize>
+    ensures { result ≡ position (λ x. x == op) list.now }
 {
-    let mut i = 0;
-    while i < list.len() {
-        if list[i] == op {
-            return i;
-        }
-        i += 1;
-    }
-    i
+    list.iter().position(|x| *x == op)
 }

@@ -1,7 +1,6 @@
-// What a packet from the host is. Each reader tells apart why a packet is not read: too short for its header, another
-// kind of packet, or shorter than its length field says.
+// What a packet from the host is, read as a command or as ACL data.
 ghost use Rattle.std.specs.Prelude.{◌≡◌};
-ghost use Rattle.hci.specs.Read.{parse_command, parse_acl, acl_parts, acl_data};
+ghost use Rattle.hci.specs.Read.{parse_command, parse_acl, acl_data};
 
 use h4::{H4_ACL, H4_COMMAND};
 
@@ -12,32 +11,32 @@ pub struct Command {
     pub len: u8,
 }
 
+// Why a packet is not read: too short for its header, another kind of packet, or shorter than its length field says.
 #[derive(Clone, Copy)]
-pub enum CommandRead {
-    Whole(Command),
+pub enum ReadError {
     ShortHeader,
-    NotCommand,
-    ShortParameters,
+    OtherKind,
+    ShortBody,
 }
 
 impl Command {
     // Reads a packet as a command; octets past its length are ignored.
-    pub fn parse(h4: &[u8]) -> CommandRead
+    #[tactic(auto, unfolding(crate::specs::Read::parse_command))]
+    pub fn parse(h4: &[u8]) -> Result<Command, ReadError>
         ensures { result ≡ parse_command h4.now }
     {
-        if h4.len() < 4 {
-            return CommandRead::ShortHeader;
+        let [kind, low, high, len, parameters @ ..] = h4 else {
+            return Err(ReadError::ShortHeader);
+        };
+        if *kind != H4_COMMAND {
+            return Err(ReadError::OtherKind);
         }
-        if h4[0] != H4_COMMAND {
-            return CommandRead::NotCommand;
+        if parameters.len() < usize::from(*len) {
+            return Err(ReadError::ShortBody);
         }
-        let len = h4[3];
-        if h4.len() - 4 < (len as usize) {
-            return CommandRead::ShortParameters;
-        }
-        CommandRead::Whole(Command {
-            opcode: octets::word_at(h4, 1),
-            len,
+        Ok(Command {
+            opcode: u16::from_le_bytes([*low, *high]),
+            len: *len,
         })
     }
 }
@@ -52,74 +51,41 @@ pub struct Acl {
     pub len: u16,
 }
 
-#[derive(Clone, Copy)]
-pub enum AclRead {
-    Whole(Acl),
-    ShortHeader,
-    NotAcl,
-    ShortData,
-}
-
 impl Acl {
     // Reads a packet as ACL data; octets past its length are ignored.
-    pub fn parse(h4: &[u8]) -> AclRead
+    #[tactic(auto, unfolding(crate::specs::Read::parse_acl))]
+    pub fn parse(h4: &[u8]) -> Result<Acl, ReadError>
         ensures { result ≡ parse_acl h4.now }
     {
-        if h4.len() < 5 {
-            return AclRead::ShortHeader;
+        let [kind, low, high, len_low, len_high, data @ ..] = h4 else {
+            return Err(ReadError::ShortHeader);
+        };
+        if *kind != H4_ACL {
+            return Err(ReadError::OtherKind);
         }
-        if h4[0] != H4_ACL {
-            return AclRead::NotAcl;
+        let len = u16::from_le_bytes([*len_low, *len_high]);
+        if data.len() < usize::from(len) {
+            return Err(ReadError::ShortBody);
         }
-        let len = octets::word_at(h4, 3);
-        if h4.len() - 5 < (len as usize) {
-            return AclRead::ShortData;
-        }
-        AclRead::Whole(Acl {
-            handle: octets::word_at(h4, 1) % 4096,
-            boundary: h4[2] / 16 % 4,
-            broadcast: h4[2] / 64,
+        Ok(Acl {
+            handle: u16::from_le_bytes([*low, *high]) % 4096,
+            boundary: *high / 16 % 4,
+            broadcast: *high / 64,
             len,
         })
     }
 }
 
-// What the header of an ACL data packet says, with its boundary flag (bits 12 and 13 of its first word) and its broadcast flag
-// (bits 14 and 15), both 0 where the packet is not read. The data itself is handed back by `acl_data`.
-#[derive(Clone, Copy)]
-pub struct AclParts {
-    pub header: AclRead,
-    pub boundary: u8,
-    pub broadcast: u8,
-}
-
-pub fn acl_parts(h4: &[u8]) -> AclParts
-    ensures { result ≡ acl_parts h4.now }
-{
-    let header = Acl::parse(h4);
-    match header {
-        AclRead::Whole(acl) => AclParts {
-            header: AclRead::Whole(acl),
-            boundary: acl.boundary,
-            broadcast: acl.broadcast,
-        },
-        other => AclParts {
-            header: other,
-            boundary: 0,
-            broadcast: 0,
-        },
-    }
-}
-
 // The data of an ACL packet as a part of the packet; empty where the packet is not read.
+#[tactic(auto, unfolding(crate::specs::Read::parse_acl))]
 pub fn acl_data(h4: &[u8]) -> &[u8]
     ensures { result.now ≡ acl_data h4.now }
 {
     match Acl::parse(h4) {
-        AclRead::Whole(acl) => {
-            let end = 5 + (acl.len as usize);
+        Ok(acl) => {
+            let end = 5 + usize::from(acl.len);
             &h4[5..end]
         }
-        _ => &h4[..0],
+        Err(_) => &h4[..0],
     }
 }

@@ -13,23 +13,19 @@ use links::Links;
 use profile::ControllerRow;
 
 // Read Local Version Information (section 7.4.1).
+#[tactic(auto, unfolding(commands::specs::Known::read_local_version))]
 pub fn read_local_version(profile: ControllerRow) -> Answer
     ensures { Answers (definition.read_local_version profile) result }
 {
-    let hci_version = profile.hci_version;
-    let hci_low = (profile.hci_subversion % 256) as u8;
-    let hci_high = (profile.hci_subversion / 256 % 256) as u8;
-    let lmp_version = profile.lmp_version;
-    let company_low = (profile.company % 256) as u8;
-    let company_high = (profile.company / 256 % 256) as u8;
-    let lmp_low = (profile.lmp_subversion % 256) as u8;
-    let lmp_high = (profile.lmp_subversion / 256 % 256) as u8;
+    let [hci_low, hci_high] = profile.hci_subversion.to_le_bytes();
+    let [company_low, company_high] = profile.company.to_le_bytes();
+    let [lmp_low, lmp_high] = profile.lmp_subversion.to_le_bytes();
     answers::complete(&[
         SUCCESS,
-        hci_version,
+        profile.hci_version,
         hci_low,
         hci_high,
-        lmp_version,
+        profile.lmp_version,
         company_low,
         company_high,
         lmp_low,
@@ -38,22 +34,23 @@ pub fn read_local_version(profile: ControllerRow) -> Answer
 }
 
 // Read Local Supported Commands (section 7.4.2): 64 octets, the longest answer.
+#[tactic(auto, unfolding(commands::specs::Known::read_supported_commands))]
 pub fn read_supported_commands(profile: ControllerRow) -> Answer
     ensures { Answers (definition.read_supported_commands profile) result }
 {
-    let commands = profile.supported_commands;
-    reported(&commands)
+    reported(&profile.supported_commands)
 }
 
 // Read Local Supported Features (section 7.4.3).
+#[tactic(auto, unfolding(commands::specs::Known::read_supported_features))]
 pub fn read_supported_features(profile: ControllerRow) -> Answer
     ensures { Answers (definition.read_supported_features profile) result }
 {
-    let features = profile.lmp_features;
-    reported(&features)
+    reported(&profile.lmp_features)
 }
 
 // Read BD_ADDR (section 7.4.6).
+#[tactic(auto, unfolding(commands::specs::Known::read_public_address))]
 pub fn read_public_address(address: [u8; 6]) -> Answer
     ensures { Answers (definition.read_public_address address) result }
 {
@@ -71,13 +68,13 @@ fn reported(octets: &[u8]) -> Answer
 }
 
 // Read RSSI (section 7.5.4): -40 dBm for every link; 127 is "not available".
+#[tactic(auto, unfolding(commands::specs::Known::read_rssi))]
 pub fn read_rssi(p: &[u8], links: Links) -> Answer
     requires { (length p.now ≡ 2) × (links.count ≤ 16) }
     ensures { Answers (definition.read_rssi p.now (opened links)) result }
 {
     let handle = octets::word_at(p, 0);
-    let low = (handle % 256) as u8;
-    let high = (handle / 256 % 256) as u8;
+    let [low, high] = handle.to_le_bytes();
     if !links::has(links, handle) {
         return answers::complete(&[UNKNOWN_CONNECTION, low, high, 127]);
     }

@@ -1,18 +1,19 @@
 // Encryption of a link: the central's start of it, and the host's replies to a request for a long term key.
 ghost use Rattle.std.specs.Prelude.{◌≡◌, List, ℕ, ◌≤◌, length};
 ghost use Rattle.answers.specs.Answers.{followed};
-ghost use Rattle.links.specs.Links.{opened};
+ghost use Rattle.links.specs.Links.{CountsFit, opened};
 ghost use Rattle.commands.specs.Outcome.{Answers, GivesAny, done_handle};
 ghost use Rattle.commands.specs.Put.{put_links};
 ghost use Rattle.commands.specs.Link.{enable_encryption, key_reply, long_term_key_reply, long_term_key_negative_reply};
 
 use answers::Answer;
-use commands::LinksAnswered;
+use commands::Answered;
 use hci::status::{COMMAND_DISALLOWED, SUCCESS, UNKNOWN_CONNECTION};
-use links::{FoundConnection, Links};
+use links::Links;
 use state::{Controller, Masks};
 
 // LE Enable Encryption (section 7.8.24): encryption is on at once.
+#[tactic(auto, unfolding(commands::specs::Link::enable_encryption))]
 pub fn enable_encryption(links: Links, masks: Masks, p: &[u8]) -> Answer
     requires { (length p.now ≡ 28) × (links.count ≤ 16) }
     ensures { Answers (enable_encryption p.now masks (opened links)) result }
@@ -26,32 +27,34 @@ pub fn enable_encryption(links: Links, masks: Masks, p: &[u8]) -> Answer
 }
 
 // A reply to a request for a link's long term key, answered by `answer` where such a request waits.
-fn key_reply(s: Controller, handle: u16, answer: Answer) -> LinksAnswered
-    requires { (s.links.count ≤ 16) × (s.links.waiting_count ≤ 32) }
-    ensures { (event : List ℕ) → Answers (followed event (done_handle 0 handle)) answer → GivesAny (key_reply handle event) s (put_links result.links s) result.answer }
+fn key_reply(s: Controller, handle: u16, answer: Answer) -> Answered<Links>
+    requires { CountsFit s.links }
+    ensures { (event : List ℕ) → Answers (followed event (done_handle 0 handle)) answer → GivesAny (key_reply handle event) s (put_links result.part s) result.answer }
 {
     let links = s.links;
-    let found = links::connection_of(links, handle);
-    match found {
-        FoundConnection::Found(c) => {
-            if c.ltk_requested == 0 {
-                let answer = answers::done_handle(COMMAND_DISALLOWED, handle);
-                return LinksAnswered { links, answer };
-            }
-            let links = links::set_ltk_requested(links, handle, 0);
-            LinksAnswered { links, answer }
-        }
-        FoundConnection::Nothing => {
-            let answer = answers::done_handle(UNKNOWN_CONNECTION, handle);
-            LinksAnswered { links, answer }
-        }
+    let Some(c) = links::connection_of(links, handle) else {
+        return Answered {
+            part: links,
+            answer: answers::done_handle(UNKNOWN_CONNECTION, handle),
+        };
+    };
+    if c.ltk_requested == 0 {
+        return Answered {
+            part: links,
+            answer: answers::done_handle(COMMAND_DISALLOWED, handle),
+        };
+    }
+    Answered {
+        part: links::set_ltk_requested(links, handle, 0),
+        answer,
     }
 }
 
 // LE Long Term Key Request Reply (section 7.8.25): encryption is on at once.
-pub fn long_term_key_reply(s: Controller, p: &[u8]) -> LinksAnswered
-    requires { (length p.now ≡ 18) × (s.links.count ≤ 16) × (s.links.waiting_count ≤ 32) }
-    ensures { GivesAny (long_term_key_reply p.now) s (put_links result.links s) result.answer }
+#[tactic(auto, unfolding(commands::specs::Link::long_term_key_reply))]
+pub fn long_term_key_reply(s: Controller, p: &[u8]) -> Answered<Links>
+    requires { (length p.now ≡ 18) × CountsFit s.links }
+    ensures { GivesAny (long_term_key_reply p.now) s (put_links result.part s) result.answer }
 {
     let handle = octets::word_at(p, 0);
     let answer = answers::done_handle(SUCCESS, handle);
@@ -60,9 +63,10 @@ pub fn long_term_key_reply(s: Controller, p: &[u8]) -> LinksAnswered
 }
 
 // LE Long Term Key Request Negative Reply (section 7.8.26).
-pub fn long_term_key_negative_reply(s: Controller, p: &[u8]) -> LinksAnswered
-    requires { (length p.now ≡ 2) × (s.links.count ≤ 16) × (s.links.waiting_count ≤ 32) }
-    ensures { GivesAny (long_term_key_negative_reply p.now) s (put_links result.links s) result.answer }
+#[tactic(auto, unfolding(commands::specs::Link::long_term_key_negative_reply))]
+pub fn long_term_key_negative_reply(s: Controller, p: &[u8]) -> Answered<Links>
+    requires { (length p.now ≡ 2) × CountsFit s.links }
+    ensures { GivesAny (long_term_key_negative_reply p.now) s (put_links result.part s) result.answer }
 {
     let handle = octets::word_at(p, 0);
     key_reply(s, handle, answers::done_handle(SUCCESS, handle))

@@ -12,13 +12,13 @@ use profile::ControllerRow;
 use state::Masks;
 
 // LE Read Channel Map (section 7.8.20): all 37 channels.
+#[tactic(auto, unfolding(commands::specs::Link::read_channel_map))]
 pub fn read_channel_map(links: Links, p: &[u8]) -> Answer
     requires { (length p.now ≡ 2) × (links.count ≤ 16) }
     ensures { Answers (read_channel_map p.now (opened links)) result }
 {
     let handle = octets::word_at(p, 0);
-    let low = (handle % 256) as u8;
-    let high = (handle / 256 % 256) as u8;
+    let [low, high] = handle.to_le_bytes();
     if links::has(links, handle) {
         return answers::complete(&[SUCCESS, low, high, 0xFF, 0xFF, 0xFF, 0xFF, 0x1F]);
     }
@@ -26,16 +26,16 @@ pub fn read_channel_map(links: Links, p: &[u8]) -> Answer
 }
 
 // LE Read Remote Features (section 7.8.21): the virtual central reports the controller's own features.
+#[tactic(auto, unfolding(commands::specs::Link::read_remote_features))]
 pub fn read_remote_features(links: Links, masks: Masks, profile: ControllerRow, p: &[u8]) -> Answer
     requires { (length p.now ≡ 2) × (links.count ≤ 16) }
     ensures { Answers (read_remote_features profile p.now masks (opened links)) result }
 {
     let handle = octets::word_at(p, 0);
-    let low = (handle % 256) as u8;
-    let high = (handle / 256 % 256) as u8;
     if !links::has(links, handle) {
         return answers::status(UNKNOWN_CONNECTION);
     }
+    let [low, high] = handle.to_le_bytes();
     let f = commands::long_octets(profile.le_features);
     let params = [
         SUCCESS, low, high, f[0], f[1], f[2], f[3], f[4], f[5], f[6], f[7],

@@ -1,73 +1,36 @@
 -- What the changes of the links are as lists: the turns of the loops that filter an array to its front, and from the lists
 -- that a change leaves to its view.
-use Prim.Native.Nat.{ℕ, ◌+◌, ◌-◌, ◌≤◌, ◌<◌}
+use Rattle.std.specs.Prelude.{Some, None, position}
+use Prim.Native.Nat.{ℕ, ◌-◌, ◌≤◌, ◌<◌}
 use native.Mathlib.Omega.{arith}
-use mathlib.Core.Bool.{Bool, true, false, not}
+use mathlib.Core.Bool.{Bool, true, not}
 use mathlib.Core.Path.{◌≡◌, refl, sym, ap, ◌∙◌}
 use mathlib.Core.List.{List, [], ◌∷◌, ◌++◌, map}
-use lib.ListN.{length, take, get_or, set, length-set, length-take}
+use lib.ListN.{length, take, drop, get_or, set, length-take}
 use lib.Seq.{length-take-le}
+use Rattle.std.proofs.lemmas.List.{take-append-le}
 use borrow.Author.Tests.{ltb-true, eqb-false, not-true}
 use borrow.Table.Steps.{cases}
-use Rattle.lists.specs.Lists.{first_at, keep, update_first}
-use Rattle.lists.proofs.Filter.{keep_no, keep_both, keep_map, compact_more}
+use Rattle.lists.specs.Lists.{keep, update_first}
+use Rattle.lists.proofs.Filter.{keep_both, keep_map}
 use Rattle.lists.proofs.Fewer.{keep_fewer, length_fewer}
+use Rattle.lists.proofs.Search.{position_some, position_none}
 use Rattle.lists.proofs.Update.{update_prefix, update_none, length_update}
 use Rattle.links.specs.declared.Connection.{Connection}
 use Rattle.links.specs.declared.Waiting.{Waiting}
 use Rattle.links.specs.declared.Links.{Links}
-use Rattle.links.specs.declared.FoundConnection.TheVariants as found
-use Rattle.links.specs.Links.{opened, waiting_of, view, packet_of, has_handle, packet_for, has, can_open, ended, opened_last, settled, changed}
-use Rattle.links.specs.Look.{connection_of}
-use Rattle.links.specs.Change.{ListsOf, Changes, other_than, away_from, instead}
+use Rattle.links.specs.Links.{CountsFit, opened, waiting_of, view, packet_of, has_handle, packet_for, has, can_open, ended, opened_last, settled, changed}
+use Rattle.links.specs.Change.{ListsOf, Changes, other_than, away_from}
 use Rattle.lists.proofs.Counting.{any_count}
 
--- ---- the loop that stores what passes of the first n of xs at the front of out: k so far, i looked at
-pub record Filtering {A : Type 0} (p : A → Bool) (xs : List A) (n : ℕ) (out : List A) (k i : ℕ) : Type 0 where
-  pub within : i ≤ n
-  pub front : k ≤ i
-  pub long : length out ≡ length xs
-  pub kept : take k out ≡ keep p (take i xs)
-
 module _ {A : Type 0} (p : A → Bool) (xs : List A) (n : ℕ) where
-  pub filter_start : Filtering p xs n xs 0 0
-  unfolding keep
-  filter_start = record { within = omega arith; front = omega arith; long = refl; kept = refl }
-
-  pub filter_keep : (out : List A) (k i : ℕ) (d : A) → Filtering p xs n out k i → p (get_or xs i d) ≡ true → i < n
-      → n ≤ length xs
-      → Filtering p xs n (set out k (get_or xs i d)) (k + 1) (i + 1)
-  filter_keep out k i d f e h b =
-      let l = f.long in
-      let m = f.front in
-      record {
-        within = omega arith;
-        front = omega arith;
-        long = simp length-set l;
-        kept = compact_more p xs out i k d f.kept e (omega arith) (omega arith);
-      }
-
-  pub filter_pass : (out : List A) (k i : ℕ) (d : A) → Filtering p xs n out k i → p (get_or xs i d) ≡ false → i < n
-      → n ≤ length xs
-      → Filtering p xs n out k (i + 1)
-  filter_pass out k i d f e h b =
-      let m = f.front in
-      record {
-        within = omega arith;
-        front = omega arith;
-        long = f.long;
-        kept = f.kept ∙ sym (keep_no p xs i d e (omega arith));
-      }
-
-  pub filter_end : (out : List A) (k i : ℕ) → Filtering p xs n out k i → n ≤ i → n ≤ length xs
-      → (take k out ≡ keep p (take n xs)) × (k ≡ length (keep p (take n xs)))
-  filter_end out k i f h b =
-      let w = f.within in
-      let m = f.front in
-      let l = f.long in
-      let e : i ≡ n = omega arith in
-      let kept : take k out ≡ keep p (take n xs) = rw e at f.kept in
-      (kept, sym (length-take-le k out (omega arith)) ∙ ap length kept)
+  -- what passes of the first n of xs has gone to the front, where it is k elements; behind it stand others
+  pub kept_front : (items : List A) (k : ℕ) → k ≤ length (take n xs) → length items ≡ length (take n xs)
+      → take k items ≡ keep p (take n xs)
+      → (take k (items ++ drop n xs) ≡ keep p (take n xs)) × (k ≡ length (keep p (take n xs)))
+  kept_front items k h l e =
+      let le : k ≤ length items = omega arith in
+      (rw take-append-le e, sym (length-take-le k items le) ∙ ap length e)
 
   pub kept_few : length (keep p (take n xs)) ≤ n
   kept_few = omega (arith, length_fewer (keep_fewer p (take n xs)), length-take n xs)
@@ -100,35 +63,6 @@ module _ (s : Links) (longs : length s.connections ≡ 16) (wide : length s.wait
     count = count_opened h;
     waiting_count = count_waiting k;
   }
-
--- the links with the number in flight stored, and with the connections stored
-abbrev with_flying : Links → ℕ → Links
-with_flying s m = record {
-  connections = s.connections;
-  count = s.count;
-  waiting = s.waiting;
-  waiting_count = s.waiting_count;
-  in_flight = m;
-}
-
-abbrev with_connections : Links → List Connection → Links
-with_connections s cs = record {
-  connections = cs;
-  count = s.count;
-  waiting = s.waiting;
-  waiting_count = s.waiting_count;
-  in_flight = s.in_flight;
-}
-
-pub lists_flying : (s : Links) (m n : ℕ) → ListsOf s (opened s) (waiting_of s) s.in_flight → m ≡ n
-    → ListsOf (with_flying s m) (opened s) (waiting_of s) n
-lists_flying s m n l e = record {
-  connections = refl;
-  waiting = refl;
-  flying = e;
-  count = l.count;
-  waiting_count = l.waiting_count;
-}
 
 -- ---- from the lists to the view
 pub lists_view : {r : Links} {cs : List Connection} {ws : List Waiting} {n : ℕ} → ListsOf r cs ws n
@@ -183,65 +117,39 @@ pub settled_view : (n : ℕ) (s : Links) {r : Links} → ListsOf r (opened s) (w
 unfolding settled
 settled_view n s l size pool = lists_view l size pool
 
--- ---- one connection changed
-module _ (h : ℕ) (f : Connection → Connection) where
-  pub changes_lists : (s : Links) {r : Links}
-      → ListsOf r (update_first (has_handle h) f (opened s)) (waiting_of s) s.in_flight → Changes h f s r
+-- ---- one connection changed: a search of the handle, and a store over the array where it found one
+module _ (h : ℕ) (f : Connection → Connection) (s : Links) where
+  changes_lists : {r : Links} → ListsOf r (update_first (has_handle h) f (opened s)) (waiting_of s) s.in_flight
+      → Changes h f s r
   unfolding changed
-  changes_lists s l = record { viewed = lists_view l; lists = l }
+  changes_lists l = record { viewed = lists_view l; lists = l }
 
-  -- a search and a store, over the array: at is where the search found the handle
-  module _ (s : Links) (at : ℕ) (e : at ≡ first_at (has_handle h) (opened s)) (longs : length s.connections ≡ 16)
-      (wide : length s.waiting ≡ 32) (few : s.count ≤ 16) (fits : s.waiting_count ≤ 32)
-    where
-      pub changes_stored : (d : Connection) → at < s.count
-          → Changes h f s (with_connections s (set s.connections at (f (get_or s.connections at d))))
-      changes_stored d b =
-          changes_lists s
-          (record {
-            connections = update_prefix (has_handle h) f s.connections s.count at d e b (omega arith);
-            waiting = refl;
-            flying = refl;
-            count = count_opened s longs wide few ∙ sym (length_update (has_handle h) f (opened s));
-            waiting_count = count_waiting s longs wide fits;
-          })
+  abbrev with_connections : List Connection → Links
+  with_connections cs = record {
+    connections = cs;
+    count = s.count;
+    waiting = s.waiting;
+    waiting_count = s.waiting_count;
+    in_flight = s.in_flight;
+  }
 
-      pub changes_none : s.count ≤ at → Changes h f s s
-      changes_none b =
-          let n = count_opened s longs wide few in
-          let same : update_first (has_handle h) f (opened s) ≡ opened s = update_none (has_handle h) f (opened s)
-          (omega arith) in
-          changes_lists s (rw same (lists_same s longs wide few fits))
+  module _ (long : length s.connections ≡ 16) (wide : length s.waiting ≡ 32) (fit : CountsFit s) where
+    pub changes_stored : (at : ℕ) (d : Connection) → position (has_handle h) (opened s) ≡ Some at
+        → Changes h f s (with_connections (set s.connections at (f (get_or s.connections at d))))
+    changes_stored at d found =
+        let n = count_opened s long wide fit.0 in
+        let e = position_some (has_handle h) (opened s) at found in
+        changes_lists
+        (record {
+          connections = update_prefix (has_handle h) f s.connections s.count at d e.0 (omega arith) (omega arith);
+          waiting = refl;
+          flying = refl;
+          count = n ∙ sym (length_update (has_handle h) f (opened s));
+          waiting_count = count_waiting s long wide fit.1;
+        })
 
-  -- to put what f makes of the connection in its place is to change it by f
-  update_instead : (c : Connection) (cs : List Connection) → found.Found c ≡ connection_of h cs
-      → update_first (has_handle h) (instead (f c)) cs ≡ update_first (has_handle h) f cs
-  unfolding update_first connection_of
-  update_instead c [] e = refl
-  update_instead c (d ∷ cs) e =
-      cases (has_handle h d)
-      (λ u.
-      let same : found.Found c ≡ found.Found d = rw u at e in
-      let alike : c ≡ d = cc in
-      rw (u, alike))
-      (λ u. rw u (ap (◌∷◌ d) (update_instead c cs (rw u at e))))
-
-  update_unknown : (cs : List Connection) → found.Nothing ≡ connection_of h cs → update_first (has_handle h) f cs ≡ cs
-  unfolding update_first connection_of
-  update_unknown [] e = refl
-  update_unknown (d ∷ cs) e =
-      cases (has_handle h d)
-      (λ u.
-      let no : found.Nothing ≡ found.Found d = rw u at e in
-      let z : ◌≡◌ {A = ℕ} 0 1 = cc in
-      absurd (omega arith))
-      (λ u. rw u (ap (◌∷◌ d) (update_unknown cs (rw u at e))))
-
-  pub changes_found : (s : Links) {r : Links} (c : Connection) → found.Found c ≡ connection_of h (opened s)
-      → Changes h (instead (f c)) s r → Changes h f s r
-  changes_found s c e x = changes_lists s (rw (update_instead c (opened s) e) at x.lists)
-
-  pub changes_nothing : (s : Links) → found.Nothing ≡ connection_of h (opened s) → length s.connections ≡ 16
-      → length s.waiting ≡ 32
-      → s.count ≤ 16 → s.waiting_count ≤ 32 → Changes h f s s
-  changes_nothing s e a b m n = changes_lists s (rw (update_unknown (opened s) e) (lists_same s a b m n))
+    pub changes_none : position (has_handle h) (opened s) ≡ None → Changes h f s s
+    changes_none found =
+        let same : update_first (has_handle h) f (opened s) ≡ opened s =
+        update_none (has_handle h) f (opened s) (position_none (has_handle h) (opened s) found) in
+        changes_lists (rw same (lists_same s long wide fit.0 fit.1))

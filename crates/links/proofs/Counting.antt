@@ -2,13 +2,12 @@
 use Prim.Native.Nat.{ℕ, zero, suc, ◌≤◌, ◌<◌}
 use native.Mathlib.Nat.{le_of_suc-le-suc}
 use native.Mathlib.Omega.{arith}
-use mathlib.Core.Bool.{true, false, not, and-eq-true_iff}
+use mathlib.Core.Bool.{true, not, and-eq-true_iff}
 use mathlib.Core.Path.{◌≡◌, refl, sym, ◌∙◌}
 use mathlib.Core.List.{List, [], ◌∷◌}
 use lib.ListN.{length, take, get_or}
 use lib.Seq.{length-take-le, get_or-take}
 use borrow.Author.Tests.{eq-eqb, not-true}
-use borrow.Table.Steps.{cases}
 use Rattle.lists.specs.Lists.{any, keep, keyed, distinct_by, distinct}
 use Rattle.lists.proofs.Tests.{none_at}
 use Rattle.lists.proofs.Same.{eqb_sym}
@@ -43,7 +42,3 @@ once_first l n h m =
     (omega arith) in
     let once = h j (omega arith) in
     omega arith)
-
--- a number of the list that stands there another number of times is not the only one
-pub twice_same : (l : List ℕ) (i : ℕ) → (times_in (get_or l i 0) l ≡ 1 → ⊥) → i < length l → distinct itself l ≡ false
-twice_same l i ne b = cases (distinct itself l) (λ e. absurd (ne (distinct_once l i e b))) (λ e. e)

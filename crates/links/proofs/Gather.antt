@@ -2,21 +2,22 @@
 use Prim.Native.Nat.{ℕ, zero, suc, ◌+◌, ◌≤◌, ◌<◌}
 use native.Mathlib.Nat.{zero-add, add-zero, add-suc, suc-add, le_of_suc-le-suc}
 use native.Mathlib.Omega.{arith}
-use mathlib.Core.Bool.{Bool, true, false, and-eq-true_iff}
+use mathlib.Core.Bool.{Bool, true, false, and-eq-true_iff, true≢false}
 use mathlib.Core.Path.{◌≡◌, refl, sym, ap, ◌∙◌}
 use mathlib.Core.List.{List, [], ◌∷◌, map}
 use lib.Dec.{eqb, ltb}
 use lib.ListN.{length, take, get_or, set, length-set}
-use lib.Seq.{ext_get_or, get_or-set_same, get_or-set_other}
-use borrow.Author.Tests.{lt-ltb, le-ltb, ltb-true, ltb-false, ne_eqb, eqb-true, eqb-false}
+use lib.Seq.{ext_get_or, get_or-set_same, get_or-set_other, get_or-take, length-take-le}
+use borrow.Author.Tests.{lt-ltb, le-ltb, ltb-true, ltb-false, ne_eqb, eq-eqb, eqb-true, eqb-false}
 use borrow.Table.Steps.{cases}
 use Rattle.lists.specs.Lists.{any, all, keyed, distinct_by, distinct}
+use Rattle.lists.proofs.Tests.{all_at, all_from}
 use Rattle.lists.proofs.Distinct.{keys_map}
 use Rattle.links.specs.declared.Connection.{Connection}
 use Rattle.links.specs.Links.{has}
 use Rattle.links.specs.Holding.{handle_of}
 use Rattle.links.specs.Gather.{Gathers, key_at, keys_from, gathered, is_handle, itself, times_in}
-use Rattle.links.proofs.Counting.{once_first, twice_same}
+use Rattle.links.proofs.Counting.{distinct_once, once_first}
 
 module _ (n : ℕ) where
   pub length_keys : (i : ℕ) (cs : List Connection) → length (keys_from i n cs) ≡ length cs
@@ -93,16 +94,27 @@ module _ (n : ℕ) where
       → distinct itself (take n l) ≡ true → distinct handle_of (take n cs) ≡ true
   handles_first cs l e differ = keys_map handle_of (take n cs) ∙ rw (← take_keys n 0 cs (omega arith), ← e) differ
 
-  -- where each of the first n stands once among all, their handles differ, and back
-  pub handles_once : (cs : List Connection) (l : List ℕ) → l ≡ gathered n cs
-      → ((i : ℕ) → i < n → times_in (get_or l i 0) l ≡ 1)
-      → n ≤ length l → distinct handle_of (take n cs) ≡ true
-  handles_once cs l e once b = handles_first cs l e (once_first l n once b)
-
-  pub handles_twice : (cs : List Connection) (l : List ℕ) (i : ℕ) → Gathers n cs l → (times_in (get_or l i 0) l ≡ 1 → ⊥)
-      → i < length l → distinct handle_of (take n cs) ≡ false
-  handles_twice cs l i g ne b =
-      sym (differ_gathered cs g.small) ∙ rw (← g.keys) (twice_same l i ne b)
+  -- each of the first n stands once among all exactly if the handles differ
+  pub handles_once : (cs : List Connection) (l : List ℕ) → Gathers n cs l → n ≤ length l
+      → all (λ x. eqb (times_in x l) 1) (take n l) ≡ distinct handle_of (take n cs)
+  handles_once cs l g m =
+      let once = λ (x : ℕ). eqb (times_in x l) 1 in
+      let len = length-take-le n l m in
+      cases (distinct handle_of (take n cs))
+      (λ u.
+      let differ : distinct itself l ≡ true = rw g.keys (differ_gathered cs g.small ∙ u) in
+      rw u
+      (all_from once (take n l) 0
+      (λ i b. rw (get_or-take n l i 0 (omega arith)) (eq-eqb _ _ (distinct_once l i differ (omega arith))))))
+      (λ u.
+      cases (all once (take n l))
+      (λ e.
+      let first = once_first l n
+      (λ i b.
+      eqb-true _ _ (ap once (sym (get_or-take n l i 0 b)) ∙ all_at once (take n l) i 0 e (omega arith)))
+      m in
+      absurd (true≢false (sym (handles_first cs l g.keys first) ∙ u)))
+      (λ e. e ∙ sym u))
 
 -- ---- the loop that gathers: no handle yet, and one more
 abbrev numbers : ℕ → ℕ → List ℕ

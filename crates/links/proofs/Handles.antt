@@ -1,5 +1,6 @@
 -- Which handles the links have after a change, and what a change of one connection leaves of the others. For those who
 -- reason about calls one after the other.
+use Rattle.std.specs.Prelude.{Some}
 use Prim.Native.Nat.{ℕ}
 use native.Mathlib.Omega.{arith}
 use mathlib.Core.Bool.{Bool, true, false, cond, not, ◌&&◌, ◌||◌, and-eq-true_iff, or-false}
@@ -13,7 +14,6 @@ use Rattle.lists.proofs.Tests.{none_cons, any_append}
 use Rattle.lists.proofs.Same.{eqb_sym}
 use Rattle.lists.proofs.Update.{any_update}
 use Rattle.links.specs.declared.Connection.{Connection}
-use Rattle.links.specs.declared.FoundConnection.TheVariants as found
 use Rattle.links.specs.Links.{Model, has_handle, has, ended, opened_last, changed}
 use Rattle.links.specs.Look.{connection_of}
 use Rattle.links.specs.Change.{other_than}
@@ -70,17 +70,17 @@ module _ (h : ℕ) (f : Connection → Connection) (keeps : (c : Connection) →
   has_changed k m = has_update k m.connections
 
   -- the connection of the handle, and that of another
-  pub changed_found : (c : Connection) (cs : List Connection) → connection_of h cs ≡ found.Found c
-      → connection_of h (update_first (has_handle h) f cs) ≡ found.Found (f c)
+  pub changed_found : (c : Connection) (cs : List Connection) → connection_of h cs ≡ Some c
+      → connection_of h (update_first (has_handle h) f cs) ≡ Some (f c)
   unfolding update_first connection_of
   changed_found c [] e = let z : ◌≡◌ {A = ℕ} 0 1 = cc in absurd (omega arith)
   changed_found c (d ∷ cs) e =
       cases (has_handle h d)
       (λ u.
-      let same : found.Found d ≡ found.Found c = rw u at e in
+      let same : Some d ≡ Some c = rw u at e in
       let alike : d ≡ c = cc in
       let yes : has_handle h (f d) ≡ true = rw (keeps d) u in
-      rw (u, yes) (ap (λ (x : Connection). found.Found (f x)) alike))
+      rw (u, yes) (ap (λ (x : Connection). Some (f x)) alike))
       (λ u. rw (u, u) (changed_found c cs (rw u at e)))
 
   pub changed_other : (k : ℕ) (cs : List Connection) → (k ≡ h → ⊥)

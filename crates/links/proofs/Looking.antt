@@ -1,4 +1,5 @@
 -- What the searches of the links find, in terms of the definitions: a connection by its handle, and a free handle.
+use Rattle.std.specs.Prelude.{Some, None, position}
 use Prim.Native.Nat.{ℕ, zero, suc, ◌+◌, ◌≤◌, ◌<◌}
 use native.Mathlib.Nat.{le_of_suc-le-suc}
 use native.Mathlib.Omega.{arith}
@@ -8,42 +9,39 @@ use mathlib.Core.Path.{◌≡◌, refl, sym, ap, ◌∙◌}
 use mathlib.Core.List.{List, [], ◌∷◌}
 use lib.ListN.{length, take, get_or}
 use lib.Seq.{get_or-take, length-take-le}
-use borrow.Author.Tests.{eq-eqb, ne_eqb}
 use borrow.Table.Steps.{cases}
 use Rattle.lists.specs.Lists.{first_at}
+use Rattle.lists.proofs.Search.{position_some, position_none}
 use Rattle.links.specs.declared.Connection.{Connection}
-use Rattle.links.specs.declared.FoundConnection.TheVariants as found
-use Rattle.links.specs.declared.DisconnectReason.TheVariants as reason
 use Rattle.links.specs.Links.{has_handle, has, free_from}
-use Rattle.links.specs.Look.{connection_of, terminating_of}
+use Rattle.links.specs.Look.{connection_of}
 
 module _ (h : ℕ) where
   connection_first : (l : List Connection) (d : Connection) → first_at (has_handle h) l < length l
-      → found.Found (get_or l (first_at (has_handle h) l) d) ≡ connection_of h l
+      → Some (get_or l (first_at (has_handle h) l) d) ≡ connection_of h l
   unfolding first_at connection_of
   connection_first [] d b = absurd (omega arith)
   connection_first (c ∷ l) d b =
       cases (has_handle h c) (λ e. rw e) (λ e. rw e (connection_first l d (le_of_suc-le-suc (rw e at b))))
 
-  connection_none : (l : List Connection) → length l ≤ first_at (has_handle h) l → found.Nothing ≡ connection_of h l
+  connection_none : (l : List Connection) → length l ≤ first_at (has_handle h) l → None ≡ connection_of h l
   unfolding first_at connection_of
   connection_none [] b = refl
   connection_none (c ∷ l) b =
       cases (has_handle h c) (λ e. absurd (let k = rw e at b in omega arith))
       (λ e. rw e (connection_none l (le_of_suc-le-suc (rw e at b))))
 
-  -- the same over the first n places of the array, with what the search gave
-  module _ (xs : List Connection) (n i : ℕ) (e : i ≡ first_at (has_handle h) (take n xs)) where
-    pub connection_found : (d : Connection) → i < n → n ≤ length xs
-        → found.Found (get_or xs i d) ≡ connection_of h (take n xs)
-    connection_found d b k =
-        let len = length-take-le n xs k in
-        ap found.Found (sym (get_or-take n xs i d b)) ∙ rw e (connection_first (take n xs) d (omega arith))
+  -- the same with what the search gave, over the first n places of the array
+  pub connection_found : (xs : List Connection) (n i : ℕ) (d : Connection) → position (has_handle h) (take n xs) ≡ Some i
+      → n ≤ length xs → Some (get_or xs i d) ≡ connection_of h (take n xs)
+  connection_found xs n i d e k =
+      let at = position_some (has_handle h) (take n xs) i e in
+      let len = length-take-le n xs k in
+      ap Some (sym (get_or-take n xs i d (omega arith)))
+      ∙ rw at.0 (connection_first (take n xs) d (omega arith))
 
-    pub connection_nothing : n ≤ i → n ≤ length xs → found.Nothing ≡ connection_of h (take n xs)
-    connection_nothing b k =
-        let len = length-take-le n xs k in
-        connection_none (take n xs) (omega arith)
+  pub connection_nothing : (l : List Connection) → position (has_handle h) l ≡ None → None ≡ connection_of h l
+  connection_nothing l e = connection_none l (position_none (has_handle h) l e)
 
 -- ---- the search of a free handle: f is what it gives, with k more to try from h on
 module _ (cs : List Connection) (f k h : ℕ) (inv : f ≡ free_from k h cs) where
@@ -64,16 +62,3 @@ module _ (cs : List Connection) (f k h : ℕ) (inv : f ≡ free_from k h cs) whe
   pub free_end : k ≡ 0 → h ≡ f
   unfolding free_from
   free_end e = let u : f ≡ free_from 0 h cs = rw e at inv in sym u
-
--- ---- the reason of a Disconnect
-module _ (h : ℕ) (cs : List Connection) where
-  pub reason_none : (c : Connection) → found.Found c ≡ connection_of h cs → c.terminating ≡ 0
-      → reason.Nothing ≡ terminating_of h cs
-  reason_none c e z = rw (← e, eq-eqb c.terminating 0 z)
-
-  pub reason_some : (c : Connection) → found.Found c ≡ connection_of h cs → (c.terminating ≡ 0 → ⊥)
-      → reason.Reason c.terminating ≡ terminating_of h cs
-  reason_some c e z = rw (← e, ne_eqb c.terminating 0 z)
-
-  pub reason_nothing : found.Nothing ≡ connection_of h cs → reason.Nothing ≡ terminating_of h cs
-  reason_nothing e = rw (← e)

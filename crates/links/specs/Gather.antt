@@ -24,9 +24,6 @@ is_handle c = ltb c.handle 65536
 abbrev pub itself : ℕ → ℕ
 itself x = x
 
-abbrev pub one : Bool → ℕ
-one b = cond b 1 0
-
 -- how many times x stands in the list
 abbrev pub times_in : ℕ → List ℕ → ℕ
 times_in x l = length (keep (keyed itself x) l)

@@ -1,7 +1,7 @@
 -- The links as lists: connections in the order in which they were opened, one queue of the packets that wait in all of
 -- them, oldest first, and the number in flight; and what each operation does to them. Read beside the source's
 -- `connections`, `tx`, `acl_in_flight`. A link's own queue is the part of the queue with its handle.
-use Rattle.std.specs.Prelude.{ℕ, zero, suc, ◌+◌, ◌-◌, List, [], ◌∷◌, ◌++◌, map, Bool, cond, not, ◌||◌, eqb, ltb, length, take}
+use Rattle.std.specs.Prelude.{ℕ, zero, suc, ◌+◌, ◌-◌, ◌≤◌, List, [], ◌∷◌, ◌++◌, map, Bool, cond, not, ◌||◌, eqb, ltb, length, take}
 use Rattle.lists.specs.Lists.{any, keep, taken, leaving, update_first, read_at}
 use Rattle.links.specs.declared.Connection.{Connection}
 use Rattle.links.specs.declared.Waiting.{Waiting}
@@ -29,6 +29,11 @@ packet_of size pool w = record { handle = w.handle; octets = read_at size pool w
 
 abbrev pub view : Links → ℕ → List ℕ → Model
 view s size pool = record { connections = opened s; queue = map (packet_of size pool) (waiting_of s); in_flight = s.in_flight }
+
+-- The counts do not pass their arrays. C hands in any octets as a state, so the type cannot carry it: each function asks for it,
+-- and question 3 finds it out
+abbrev pub CountsFit : Links → Type 0
+CountsFit s = (s.count ≤ 16) × (s.waiting_count ≤ 32)
 
 -- Looking
 

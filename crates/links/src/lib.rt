@@ -23,7 +23,7 @@ pub use look::{
 
 // One link's parameters, as in the source; its queue is the part of `Links::waiting` with its handle.
 #[repr(C)]
-#[derive(Clone, Copy)]
+#[derive(Clone, Copy, Default)]
 pub struct Connection {
     pub handle: u16,
     // 1.25 ms units.
@@ -45,7 +45,7 @@ pub struct Connection {
 
 // A waiting packet: its link, the pool place that holds its octets, and how many they are.
 #[repr(C)]
-#[derive(Clone, Copy)]
+#[derive(Clone, Copy, Default)]
 pub struct Waiting {
     pub handle: u16,
     pub len: u16,
@@ -63,18 +63,12 @@ pub struct Links {
     pub in_flight: u16,
 }
 
-// The connection of a handle, where there is one.
+// The three parameters of a link that a connection update changes: interval in 1.25 ms units, latency, timeout in 10 ms units.
 #[derive(Clone, Copy)]
-pub enum FoundConnection {
-    Found(Connection),
-    Nothing,
-}
-
-// The reason of a Disconnect that waits for the peer, where there is one.
-#[derive(Clone, Copy)]
-pub enum DisconnectReason {
-    Reason(u8),
-    Nothing,
+pub struct Timing {
+    pub interval: u16,
+    pub latency: u16,
+    pub timeout: u16,
 }
 
 impl Links {
@@ -82,30 +76,10 @@ impl Links {
     pub fn new() -> Self
         ensures { ListsOf result [] [] 0 }
     {
-        let c = Connection {
-            handle: 0,
-            interval: 0,
-            latency: 0,
-            timeout: 0,
-            tx_octets: 0,
-            tx_time: 0,
-            auth_payload_timeout: 0,
-            tx_phy: 0,
-            rx_phy: 0,
-            terminating: 0,
-            ltk_requested: 0,
-        };
-        let w = Waiting {
-            handle: 0,
-            len: 0,
-            place: 0,
-        };
-        let connections = [c; 16];
-        let waiting = [w; 32];
         Links {
-            connections: connections,
+            connections: [Connection::default(); 16],
             count: 0,
-            waiting: waiting,
+            waiting: [Waiting::default(); 32],
             waiting_count: 0,
             in_flight: 0,
         }

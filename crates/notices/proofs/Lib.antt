@@ -1,4 +1,3 @@
 -- The laws of `notices`.
 pub mod Giving
-pub mod Writing
 pub mod Telling

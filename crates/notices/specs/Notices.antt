@@ -1,7 +1,7 @@
 -- What the link tells the controller, and what the host hears of it (Core Vol 4 Part E section 7.7): each notice as a function of
 -- the state, in the order of the source's functions. A notice has no acknowledgement; `tells` is its event, [] where the host has
 -- masked it or there is none. For the controller's calls, and for the theorem about lists of calls.
-use Rattle.std.specs.Prelude.{◌≡◌, ℕ, List, [], ◌∷◌, ◌++◌, cond, eqb, length, replicate}
+use Rattle.std.specs.Prelude.{ℕ, List, [], ◌∷◌, ◌++◌, cond, eqb, replicate}
 use Rattle.octets.specs.Octets.{le}
 use Rattle.hci.specs.Packet.{event, completed_params, meta_params}
 use Rattle.answers.specs.Answers.{AnswerModel, silent, followed}
@@ -37,12 +37,6 @@ connection_head handle kind peer = 0x00 ∷ le 2 handle ++ 0x01 ∷ kind ∷ pee
 
 abbrev pub connection_tail : ℕ → ℕ → ℕ → ℕ → List ℕ
 connection_tail interval latency timeout accuracy = le 2 interval ++ le 2 latency ++ le 2 timeout ++ accuracy ∷ []
-
--- the lengths of what the code writes: all before the peer's address, that address, and the tail
-pub record ConnectionParts (head peer tail : List ℕ) : Type 0 where
-  pub five : length head ≡ 5
-  pub six : length peer ≡ 6
-  pub seven : length tail ≡ 7
 
 -- in the newest form that the masks enable
 unfoldable pub connection_complete : Masks → List ℕ → List ℕ → List ℕ

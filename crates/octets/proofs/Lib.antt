@@ -1,4 +1,3 @@
 -- The laws of buffers of octets and of little-endian numbers.
-pub mod Copying
 pub mod Writing
 pub mod Numbers

@@ -9,11 +9,6 @@ use lib.ListN.{length, take, drop}
 use lib.Seq.{drop-cons}
 use Rattle.octets.specs.Octets.{octet, le, number_at}
 
--- a number of w octets has w octets
-pub length_le : (w n : ℕ) → length (le w n) ≡ w
-length_le zero n = refl
-length_le (suc w) n = ap suc (length_le w (n / 256))
-
 -- one octet in front
 number_behind : (w x : ℕ) (p : List ℕ) (i : ℕ) → number_at w (x ∷ p) (suc i) ≡ number_at w p i
 number_behind zero x p i = refl
@@ -46,7 +41,8 @@ number_le (suc (suc w)) n q h =
     omega (arith, e)
 
 -- w octets, each below 256, are the octets of the number that they are
-pub le_number : (w : ℕ) (p : List ℕ) (i : ℕ) → i + w ≤ length p → ((k : ℕ) → octet p k < 256) → le w (number_at w p i) ≡ take w (drop i p)
+pub le_number : (w : ℕ) (p : List ℕ) (i : ℕ) → i + w ≤ length p → ((k : ℕ) → octet p k < 256)
+    → le w (number_at w p i) ≡ take w (drop i p)
 le_number zero p i h f = refl
 le_number (suc zero) p i h f =
     let e : octet p i % 256 ≡ octet p i = omega (arith, f i) in

@@ -29,18 +29,6 @@ splice_written xs at ys h =
     rw (append_assoc, drop_at (take at xs) (ys ++ drop (at + length ys) xs) at (length-take-le at xs h))
     (take_at ys (drop (at + length ys) xs) (length ys) refl)
 
--- what lies before it is unchanged
-pub splice_before : (xs : List ℕ) (at : ℕ) (ys : List ℕ) → at ≤ length xs → take at (splice xs at ys) ≡ take at xs
-unfolding splice
-splice_before xs at ys h = rw append_assoc (take_at (take at xs) (ys ++ drop (at + length ys) xs) at (length-take-le at xs h))
-
--- and what lies behind it
-pub splice_behind : (xs : List ℕ) (at : ℕ) (ys : List ℕ) → at ≤ length xs → drop (at + length ys) (splice xs at ys) ≡ drop (at + length ys) xs
-unfolding splice
-splice_behind xs at ys h =
-    let n : length (take at xs ++ ys) ≡ at + length ys = simp (length-append, length-take-le at xs h) in
-    drop_at (take at xs ++ ys) (drop (at + length ys) xs) (at + length ys) n
-
 -- two writes end to end are one
 pub splice_splice : (xs : List ℕ) (at : ℕ) (ys : List ℕ) (b : ℕ) (zs : List ℕ) → at + length ys ≤ length xs → b ≡ at + length ys
     → splice (splice xs at ys) b zs ≡ splice xs at (ys ++ zs)
@@ -60,7 +48,8 @@ splice_splice xs at ys b zs h e =
     ∙ ap (λ (l : List ℕ). l ++ drop (at + length (ys ++ zs)) xs) (append_assoc (take at xs) ys zs)
 
 -- the same of the contracts of two writers
-pub put_then : {xs : List ℕ} {at : ℕ} {ys : List ℕ} {b : ℕ} {one zs : List ℕ} {r : ℕ} {two : List ℕ} → Put xs at ys b one → Put one b zs r two
+pub put_then : {xs : List ℕ} {at : ℕ} {ys : List ℕ} {b : ℕ} {one zs : List ℕ} {r : ℕ} {two : List ℕ} → Put xs at ys b one
+    → Put one b zs r two
     → Put xs at (ys ++ zs) r two
 put_then {xs} {at} {ys} {b} {one} {zs} {r} {two} p q =
     let long : length one ≡ length xs = ap length p.leaves ∙ length_splice xs at ys p.room in
@@ -80,7 +69,8 @@ pub put_long : {xs : List ℕ} {at : ℕ} {ys : List ℕ} {r : ℕ} {after : Lis
 put_long {xs} {at} {ys} p = ap length p.leaves ∙ length_splice xs at ys p.room
 
 -- what is written at the front of `&mut out[a..]` is written in `out` from a
-pub put_part : (xs : List ℕ) (a : ℕ) {ys : List ℕ} {r : ℕ} {after : List ℕ} → a ≤ length xs → Put (mid_of a (length xs - a) xs) 0 ys r after
+pub put_part : (xs : List ℕ) (a : ℕ) {ys : List ℕ} {r : ℕ} {after : List ℕ} → a ≤ length xs
+    → Put (mid_of a (length xs - a) xs) 0 ys r after
     → Put xs a ys (a + r) (put_mid a (length xs - a) xs after)
 unfolding splice
 put_part xs a {ys} {r} {after} h p =

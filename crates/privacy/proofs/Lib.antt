@@ -1,3 +1,2 @@
--- The laws of the commands of privacy and of the PHYs.
+-- The laws of the commands of privacy.
 pub mod Identity
-pub mod Picking

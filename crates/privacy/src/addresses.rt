@@ -5,11 +5,12 @@ ghost use Rattle.commands.specs.Outcome.{Answers, GivesAny};
 ghost use Rattle.commands.specs.Privacy.{read_resolvable_address, set_address_resolution, set_address_timeout};
 
 use answers::Answer;
-use commands::SettingsAnswered;
+use commands::Answered;
 use hci::status::{COMMAND_DISALLOWED, INVALID_PARAMETERS, SUCCESS, UNKNOWN_CONNECTION};
-use state::Controller;
+use state::{Controller, Settings};
 
 // LE Read Peer and Local Resolvable Address (sections 7.8.42 and 7.8.43).
+#[tactic(auto, unfolding(commands::specs::Privacy::read_resolvable_address))]
 pub fn read_resolvable_address() -> Answer
     ensures { Answers read_resolvable_address result }
 {
@@ -17,32 +18,34 @@ pub fn read_resolvable_address() -> Answer
 }
 
 // LE Set Address Resolution Enable (section 7.8.44).
-pub fn set_address_resolution(s: Controller, p: &[u8]) -> SettingsAnswered
+#[tactic(auto, unfolding(commands::specs::Privacy::set_address_resolution))]
+pub fn set_address_resolution(s: Controller, p: &[u8]) -> Answered<Settings>
     requires { length p.now ≡ 1 }
-    ensures { GivesAny (set_address_resolution p.now) s (put_settings result.settings s) result.answer }
+    ensures { GivesAny (set_address_resolution p.now) s (put_settings result.part s) result.answer }
 {
     let mut settings = s.settings;
     let enable = p[0];
     if enable > 1 {
-        return commands::settings_answered(settings, INVALID_PARAMETERS);
+        return Answered::done(settings, INVALID_PARAMETERS);
     }
     if state::busy(s) {
-        return commands::settings_answered(settings, COMMAND_DISALLOWED);
+        return Answered::done(settings, COMMAND_DISALLOWED);
     }
     settings.address_resolution = enable;
-    commands::settings_answered(settings, SUCCESS)
+    Answered::done(settings, SUCCESS)
 }
 
 // LE Set Resolvable Private Address Timeout (section 7.8.45): 1 s to 1 hour.
-pub fn set_address_timeout(s: Controller, p: &[u8]) -> SettingsAnswered
+#[tactic(auto, unfolding(commands::specs::Privacy::set_address_timeout))]
+pub fn set_address_timeout(s: Controller, p: &[u8]) -> Answered<Settings>
     requires { length p.now ≡ 2 }
-    ensures { GivesAny (set_address_timeout p.now) s (put_settings result.settings s) result.answer }
+    ensures { GivesAny (set_address_timeout p.now) s (put_settings result.part s) result.answer }
 {
     let mut settings = s.settings;
     let timeout = octets::word_at(p, 0);
     if !commands::within(0x0001, 0x0E10, timeout) {
-        return commands::settings_answered(settings, INVALID_PARAMETERS);
+        return Answered::done(settings, INVALID_PARAMETERS);
     }
     settings.rpa_timeout = timeout;
-    commands::settings_answered(settings, SUCCESS)
+    Answered::done(settings, SUCCESS)
 }

@@ -5,6 +5,7 @@ ghost use Rattle.commands.specs.Privacy.{all_supported, phy_preference_empty, ph
 
 use profile::ControllerRow;
 
+// Numbers and no enum: they go as they are into an octet of the state, which C reads too, and into the event.
 const LE_1M: u8 = 1;
 
 const LE_2M: u8 = 2;
@@ -15,53 +16,36 @@ const LE_CODED: u8 = 3;
 fn names_none(any: bool, set: u8) -> bool
     ensures { result ≡ (not any && eqb set 0) }
 {
-    if any {
-        return false;
-    }
-    set == 0
+    !any && set == 0
 }
 
 // Whether a direction has a preference, and it is for a PHY that the controller lacks.
 fn names_lacking(profile: ControllerRow, any: bool, set: u8) -> bool
     ensures { result ≡ (not any && not (all_supported profile set)) }
 {
-    if any {
-        return false;
-    }
-    let supported = commands::phys(profile);
-    set & supported != set
+    !any && set & commands::phys(profile) != set
 }
 
 // Reserved bits, or a preference for no PHY (section 7.8.48).
+#[tactic(auto, unfolding(commands::specs::Privacy::phy_preference_empty))]
 pub fn phy_preference_empty(all: u8, tx: u8, rx: u8) -> bool
     ensures { result ≡ phy_preference_empty all tx rx }
 {
-    if all > 3 {
-        return true;
-    }
-    if names_none(all % 2 == 1, tx) {
-        return true;
-    }
-    names_none((all >> 1) % 2 == 1, rx)
+    all > 3 || names_none(all % 2 == 1, tx) || names_none((all >> 1) % 2 == 1, rx)
 }
 
 // A PHY that the controller lacks, or different PHYs for the two directions (section 7.8.48).
+#[tactic(auto, unfolding(commands::specs::Privacy::phy_preference_unsupported))]
 pub fn phy_preference_unsupported(profile: ControllerRow, all: u8, tx: u8, rx: u8) -> bool
     ensures { result ≡ phy_preference_unsupported profile all tx rx }
 {
-    if names_lacking(profile, all % 2 == 1, tx) {
-        return true;
-    }
-    if names_lacking(profile, (all >> 1) % 2 == 1, rx) {
-        return true;
-    }
-    if all != 0 {
-        return false;
-    }
-    tx != rx
+    names_lacking(profile, all % 2 == 1, tx)
+        || names_lacking(profile, (all >> 1) % 2 == 1, rx)
+        || (all == 0 && tx != rx)
 }
 
 // The PHY that a link takes (section 7.8.49): without a preference the one it has, else LE 2M, LE 1M, LE Coded, in this order.
+#[tactic(auto, unfolding(commands::specs::Privacy::phy_picked))]
 pub fn pick_phy(profile: ControllerRow, any: bool, allowed: u8, current: u8) -> u8
     ensures { result ≡ phy_picked profile any allowed current }
 {
@@ -73,10 +57,7 @@ pub fn pick_phy(profile: ControllerRow, any: bool, allowed: u8, current: u8) -> 
     if (both >> 1) % 2 == 1 {
         return LE_2M;
     }
-    if both % 2 == 1 {
-        return LE_1M;
-    }
-    if both == 0 {
+    if both % 2 == 1 || both == 0 {
         return LE_1M;
     }
     LE_CODED

@@ -1,5 +1,5 @@
 // The commands of the resolving list. The keys that come with an identity are not kept, since the controller resolves no address.
-ghost use Rattle.std.specs.Prelude.{◌≡◌, List, ℕ, ◌≤◌, length};
+ghost use Rattle.std.specs.Prelude.{◌≡◌, [], ◌≤◌, length};
 ghost use Rattle.lists.specs.Lists.{any};
 ghost use Rattle.filters.specs.Filters.{resolving_entries, has_identity};
 ghost use Rattle.state.specs.State.{view};
@@ -9,7 +9,7 @@ ghost use Rattle.commands.specs.Privacy.{add_to_resolving_list, remove_from_reso
 ghost use Rattle.commands.specs.Privacy.{locked as is_locked};
 
 use answers::Answer;
-use commands::ResolvingAnswered;
+use commands::Answered;
 use filters::ResolvingList;
 use hci::status::{
     COMMAND_DISALLOWED, INVALID_PARAMETERS, MEMORY_CAPACITY_EXCEEDED, SUCCESS, UNKNOWN_CONNECTION,
@@ -17,14 +17,12 @@ use hci::status::{
 use profile::ControllerRow;
 use state::Controller;
 
-// Whether the list may not change: address resolution is on and the link layer is busy.
+// Whether the list may not change: address resolution is on and the link layer is busy. What the pool holds does not matter, so
+// the contract names an empty one.
 fn locked(s: Controller) -> bool
-    ensures { (size : ℕ) (pool : List ℕ) → result ≡ is_locked (view s size pool) }
+    ensures { result ≡ is_locked (view s 0 []) }
 {
-    if s.settings.address_resolution != 0 {
-        return state::busy(s);
-    }
-    false
+    s.settings.address_resolution != 0 && state::busy(s)
 }
 
 // Whether an identity is on the list.
@@ -32,61 +30,67 @@ fn listed(list: ResolvingList, identity: [u8; 7]) -> bool
     requires { list.count ≤ 16 }
     ensures { result ≡ any (has_identity identity) (resolving_entries list) }
 {
-    let n = list.count;
-    let place = list.position(identity);
-    place < n
+    list.position(identity).is_some()
 }
 
 // LE Add Device To Resolving List (section 7.8.38).
-pub fn add_to_resolving_list(s: Controller, profile: ControllerRow, p: &[u8]) -> ResolvingAnswered
+#[tactic(auto, unfolding(commands::specs::Privacy::add_to_resolving_list))]
+pub fn add_to_resolving_list(
+    s: Controller,
+    profile: ControllerRow,
+    p: &[u8],
+) -> Answered<ResolvingList>
     requires { (length p.now ≡ 39) × Ready s profile }
-    ensures { Gives (add_to_resolving_list profile p.now) profile s (put_resolving_list result.resolving_list s) result.answer }
+    ensures { Gives (add_to_resolving_list profile p.now) profile s (put_resolving_list result.part s) result.answer }
 {
     let list = s.resolving_list;
     if locked(s) {
-        return commands::list_answered(list, COMMAND_DISALLOWED);
+        return Answered::done(list, COMMAND_DISALLOWED);
     }
     if p[0] > 1 {
-        return commands::list_answered(list, INVALID_PARAMETERS);
+        return Answered::done(list, INVALID_PARAMETERS);
     }
     let identity = filters::identity(p);
     if listed(list, identity) {
-        return commands::list_answered(list, INVALID_PARAMETERS);
+        return Answered::done(list, INVALID_PARAMETERS);
     }
-    if list.count >= (profile.resolving_list_size as usize) {
-        return commands::list_answered(list, MEMORY_CAPACITY_EXCEEDED);
+    if list.count >= usize::from(profile.resolving_list_size) {
+        return Answered::done(list, MEMORY_CAPACITY_EXCEEDED);
     }
-    commands::list_answered(list.push(identity), SUCCESS)
+    Answered::done(list.push(identity), SUCCESS)
 }
 
 // LE Remove Device From Resolving List (section 7.8.39).
-pub fn remove_from_resolving_list(s: Controller, p: &[u8]) -> ResolvingAnswered
+#[tactic(auto, unfolding(commands::specs::Privacy::remove_from_resolving_list))]
+pub fn remove_from_resolving_list(s: Controller, p: &[u8]) -> Answered<ResolvingList>
     requires { (length p.now ≡ 7) × (s.resolving_list.count ≤ 16) }
-    ensures { GivesAny (remove_from_resolving_list p.now) s (put_resolving_list result.resolving_list s) result.answer }
+    ensures { GivesAny (remove_from_resolving_list p.now) s (put_resolving_list result.part s) result.answer }
 {
     let list = s.resolving_list;
     if locked(s) {
-        return commands::list_answered(list, COMMAND_DISALLOWED);
+        return Answered::done(list, COMMAND_DISALLOWED);
     }
     let identity = filters::identity(p);
     if !listed(list, identity) {
-        return commands::list_answered(list, UNKNOWN_CONNECTION);
+        return Answered::done(list, UNKNOWN_CONNECTION);
     }
-    commands::list_answered(list.remove(identity), SUCCESS)
+    Answered::done(list.remove(identity), SUCCESS)
 }
 
 // LE Clear Resolving List (section 7.8.40).
-pub fn clear_resolving_list(s: Controller) -> ResolvingAnswered
-    ensures { GivesAny clear_resolving_list s (put_resolving_list result.resolving_list s) result.answer }
+#[tactic(auto, unfolding(commands::specs::Privacy::clear_resolving_list))]
+pub fn clear_resolving_list(s: Controller) -> Answered<ResolvingList>
+    ensures { GivesAny clear_resolving_list s (put_resolving_list result.part s) result.answer }
 {
     if locked(s) {
         let list = s.resolving_list;
-        return commands::list_answered(list, COMMAND_DISALLOWED);
+        return Answered::done(list, COMMAND_DISALLOWED);
     }
-    commands::list_answered(ResolvingList::new(), SUCCESS)
+    Answered::done(ResolvingList::new(), SUCCESS)
 }
 
 // LE Read Resolving List Size (section 7.8.41).
+#[tactic(auto, unfolding(commands::specs::Privacy::read_resolving_list_size))]
 pub fn read_resolving_list_size(profile: ControllerRow) -> Answer
     ensures { Answers (read_resolving_list_size profile) result }
 {
@@ -94,21 +98,22 @@ pub fn read_resolving_list_size(profile: ControllerRow) -> Answer
 }
 
 // LE Set Privacy Mode (section 7.8.77): network privacy 0, device privacy 1.
-pub fn set_privacy_mode(s: Controller, p: &[u8]) -> ResolvingAnswered
+#[tactic(auto, unfolding(commands::specs::Privacy::set_privacy_mode))]
+pub fn set_privacy_mode(s: Controller, p: &[u8]) -> Answered<ResolvingList>
     requires { (length p.now ≡ 8) × (s.resolving_list.count ≤ 16) }
-    ensures { GivesAny (set_privacy_mode p.now) s (put_resolving_list result.resolving_list s) result.answer }
+    ensures { GivesAny (set_privacy_mode p.now) s (put_resolving_list result.part s) result.answer }
 {
     let list = s.resolving_list;
     if locked(s) {
-        return commands::list_answered(list, COMMAND_DISALLOWED);
+        return Answered::done(list, COMMAND_DISALLOWED);
     }
     let mode = p[7];
     if mode > 1 {
-        return commands::list_answered(list, INVALID_PARAMETERS);
+        return Answered::done(list, INVALID_PARAMETERS);
     }
     let identity = filters::identity(p);
     if !listed(list, identity) {
-        return commands::list_answered(list, UNKNOWN_CONNECTION);
+        return Answered::done(list, UNKNOWN_CONNECTION);
     }
-    commands::list_answered(list.set_mode(identity, mode), SUCCESS)
+    Answered::done(list.set_mode(identity, mode), SUCCESS)
 }

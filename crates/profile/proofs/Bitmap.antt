@@ -1,17 +1,15 @@
--- The bit map of the rows: the turns of the loop that makes it, and, for callers, its length and which bits it has.
-use Prim.Native.Nat.{ℕ, ◌+◌, ◌/◌, ◌≤◌, ◌<◌, min}
+-- The bit map of the rows, for callers: its length and which bits it has.
+use Prim.Native.Nat.{ℕ, ◌/◌, ◌≤◌, ◌<◌}
 use native.Mathlib.Omega.{arith}
 use native.Mathlib.Nat.{zero-div, zero-mod}
-use native.Mathlib.Numerals.{add-one}
-use mathlib.Core.Path.{◌≡◌, refl, sym, ◌∙◌}
+use mathlib.Core.Path.{◌≡◌, refl, ◌∙◌}
 use mathlib.Core.List.{List, [], ◌∷◌}
 use mathlib.Core.Bool.{Bool, true, false, cond, not, ◌&&◌, ◌||◌}
 use lib.Dec.{eqb, ltb}
-use lib.ListN.{length, drop, get_or, replicate, length-set, length-drop, get_or-replicate}
-use lib.Seq.{drop-cons}
-use borrow.Author.Tests.{eq-eqb, ne_eqb, ltb-true, ltb-false}
+use lib.ListN.{length, replicate, length-set, get_or-replicate}
+use borrow.Author.Tests.{ne_eqb, ltb-true, ltb-false}
 use borrow.Table.Steps.{cases}
-use Rattle.hci.specs.Bits.{with_bit, map_bit}
+use Rattle.hci.specs.Bits.{map_bit}
 use Rattle.hci.proofs.Bit.{bit_set}
 use Rattle.profile.specs.Profile.{with_row, row_bits, row_bitmap, lists_bit}
 
@@ -65,29 +63,3 @@ pub bitmap_bit : (answers bits : List ℕ) (b : ℕ) → b < 512
 bitmap_bit answers bits b h =
     rows_bit (replicate 64 0) answers bits b refl h
     ∙ rw (get_or-replicate {A = ℕ} 64 (b / 8) 0 0 (omega arith), zero-div, zero-mod)
-
--- ---- the loop: what is left of the rows, from index i on, gives the rest of the map
-abbrev pub Setting : List ℕ → List ℕ → List ℕ → ℕ → Type 0
-Setting answers bits map i = row_bitmap answers bits ≡ row_bits map (drop i answers) (drop i bits)
-
-module _ (answers bits map : List ℕ) (i : ℕ) (inv : Setting answers bits map i) where
-  row_next : i < length answers → i < length bits
-      → Setting answers bits (with_row map (get_or answers i 0) (get_or bits i 0)) (i + 1)
-  unfolding row_bits
-  row_next ha hb = inv ∙ rw (add-one, drop-cons answers i 0 ha, drop-cons bits i 0 hb)
-
-  pub row_listed : (get_or answers i 0 ≡ 2 → ⊥) → i < length answers → i < length bits
-      → Setting answers bits (cond (ltb (get_or bits i 0) 512) (with_bit map (get_or bits i 0)) map) (i + 1)
-  row_listed n ha hb = rw (ne_eqb (get_or answers i 0) 2 n) at (row_next ha hb)
-
-  pub row_unknown : get_or answers i 0 ≡ 2 → i < length answers → i < length bits → Setting answers bits map (i + 1)
-  row_unknown e ha hb = rw (eq-eqb (get_or answers i 0) 2 e) at (row_next ha hb)
-
-  pub rows_end : i ≡ min (length answers) (length bits) → map ≡ row_bitmap answers bits
-  unfolding row_bits
-  rows_end e = sym (inv ∙ none map (drop i answers) (drop i bits) (simp length-drop (omega arith)))
-    where
-      none : (m a b : List ℕ) → min (length a) (length b) ≡ 0 → row_bits m a b ≡ m
-      none m [] b z = refl
-      none m (x ∷ a) [] z = refl
-      none m (x ∷ a) (y ∷ b) z = absurd (omega arith)

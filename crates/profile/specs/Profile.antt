@@ -1,11 +1,11 @@
 -- The profile's limits (question 1), its rows (question 2), the answer of an opcode's first row, and the bit map of the
 -- rows. Document 01, "Profile, state and pool". For callers of the controller.
-use Rattle.std.specs.Prelude.{ℕ, ◌≤◌, ◌<◌, ◌≡◌, List, [], ◌∷◌, Bool, false, cond, not, ◌&&◌, ◌||◌, leb, ltb, eqb, length, get_or, replicate}
+use Rattle.std.specs.Prelude.{ℕ, ◌≤◌, ◌<◌, ◌≡◌, List, [], ◌∷◌, Option, Some, None, Bool, false, cond, not, ◌&&◌, ◌||◌, leb, ltb, eqb, length, get_or, replicate}
 use Rattle.lists.specs.Lists.{first_at, all}
 use Rattle.hci.specs.Bits.{with_bit}
 use Rattle.profile.specs.declared.ControllerRow.{ControllerRow}
 use Rattle.profile.specs.declared.Answering.{Answering}
-use Rattle.profile.specs.declared.Answering.TheVariants.{Modeled, Unmodeled, Unknown, NoRow}
+use Rattle.profile.specs.declared.Answering.TheVariants.{Modeled, Unmodeled, Unknown}
 
 -- question 1: acl_len 27 to 1,019, acl_count 1 to 32, accept_list_size 0 to 32, resolving_list_size 0 to 16
 unfoldable pub within_limits : ControllerRow → Bool
@@ -46,11 +46,11 @@ pub record Rows (opcodes answers bits : List ℕ) : Type 0 where
   pub known : (i : ℕ) → i < length answers → get_or answers i 0 ≤ 2
 
 -- document 01's number of an answer: 0 modelled, 1 unmodelled, 2 unknown; 3 where an opcode has no row
-abbrev pub answer_number : Answering → ℕ
-answer_number Modeled = 0
-answer_number Unmodeled = 1
-answer_number Unknown = 2
-answer_number NoRow = 3
+abbrev pub answer_number : Option Answering → ℕ
+answer_number (Some Modeled) = 0
+answer_number (Some Unmodeled) = 1
+answer_number (Some Unknown) = 2
+answer_number None = 3
 
 -- the answer of the first row of an opcode, 3 where it has none
 abbrev pub row_answer : List ℕ → List ℕ → ℕ → ℕ

@@ -36,41 +36,25 @@ pub struct ControllerRow {
 }
 
 // Question 1: is the profile within document 01's limits?
+#[tactic(auto, unfolding(crate::specs::Profile::within_limits))]
 pub fn within_limits(profile: ControllerRow) -> bool
     ensures { result ≡ within_limits profile }
 {
-    if profile.acl_len < 27 {
-        return false;
-    }
-    if profile.acl_len > 1019 {
-        return false;
-    }
-    if profile.acl_count < 1 {
-        return false;
-    }
-    if profile.acl_count > 32 {
-        return false;
-    }
-    if profile.accept_list_size > 32 {
-        return false;
-    }
-    profile.resolving_list_size <= 16
+    (27..=1019).contains(&profile.acl_len)
+        && (1..=32).contains(&profile.acl_count)
+        && profile.accept_list_size <= 32
+        && profile.resolving_list_size <= 16
 }
 
 // Question 2: are the rows' slices equally long, at most 256, and their answers at most 2?
+#[tactic(auto, unfolding(crate::specs::Profile::rows_fit))]
 pub fn rows_fit(opcodes: &[u16], answers: &[u8], bits: &[u16]) -> bool
     ensures { result ≡ rows_fit opcodes.now answers.now bits.now }
 {
-    if opcodes.len() != answers.len() {
-        return false;
-    }
-    if opcodes.len() != bits.len() {
-        return false;
-    }
-    if opcodes.len() > 256 {
-        return false;
-    }
-    answers_fit(answers)
+    opcodes.len() == answers.len()
+        && opcodes.len() == bits.len()
+        && opcodes.len() <= 256
+        && answers_fit(answers)
 }
 
 // Whether each answer is at most 2. It is asked with each call, so the loop looks at all of them and takes the greatest:
@@ -79,55 +63,43 @@ fn answers_fit(answers: &[u8]) -> bool
     ensures { result ≡ all (λ a. leb a 2) answers.now }
 {
     let mut greatest: u8 = 0;
-    let mut i = 0;
-    while i < answers.len() {
-        let answer = answers[i];
-        if greatest < answer {
-            greatest = answer;
-        }
-        i += 1;
+    for answer in answers {
+        greatest = greatest.max(*answer);
     }
     greatest <= 2
 }
 
-// How a row answers its opcode; NoRow where no row has it.
+// How a row answers its opcode.
 #[derive(Clone, Copy)]
 pub enum Answering {
     Modeled,
     Unmodeled,
     Unknown,
-    NoRow,
 }
 
-// How the first row of an opcode answers it.
-pub fn row_answer(opcodes: &[u16], answers: &[u8], op: u16) -> Answering
+// How the first row of an opcode answers it; None where no row has it.
+pub fn row_answer(opcodes: &[u16], answers: &[u8], op: u16) -> Option<Answering>
     requires { answers_fit opcodes.now answers.now ≡ true }
     ensures { answer_number result ≡ row_answer opcodes.now answers.now op }
 {
-    let i = hci::first_opcode(opcodes, op);
-    if answers.len() <= i {
-        return Answering::NoRow;
-    }
-    let answer = answers[i];
-    match answer {
+    let i = hci::first_opcode(opcodes, op)?;
+    Some(match answers[i] {
         0 => Answering::Modeled,
         1 => Answering::Unmodeled,
         _ => Answering::Unknown,
-    }
+    })
 }
 
 // The Supported_Commands bit map (Core Vol 4 Part E section 6.27) of the rows that are not unknown.
+#[tactic(auto, unfolding(crate::specs::Profile::row_bits))]
 pub fn row_bitmap(answers: &[u8], bits: &[u16]) -> [u8; 64]
     ensures { result ≡ row_bitmap answers.now bits.now }
 {
     let mut map = [0u8; 64];
-    let n = octets::lesser(answers.len(), bits.len());
-    let mut i = 0;
-    while i < n {
-        if answers[i] != 2 {
-            set_row_bit(&mut map, bits[i]);
+    for (answer, bit) in answers.iter().zip(bits) {
+        if *answer != 2 {
+            set_row_bit(&mut map, *bit);
         }
-        i += 1;
     }
     map
 }
@@ -137,6 +109,6 @@ fn set_row_bit(map: &mut [u8; 64], bit: u16)
     ensures { map.new ≡ cond (ltb bit 512) (with_bit map.old bit) map.old }
 {
     if bit < 512 {
-        hci::set_bit(map, bit as usize);
+        hci::set_bit(map, usize::from(bit));
     }
 }

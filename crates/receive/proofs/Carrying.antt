@@ -1,5 +1,6 @@
 -- What a command packet gives, from what `command` gives: one that is read whole is answered by its course, one that is cut short
 -- does nothing. For `on_packet`.
+use Rattle.std.specs.Prelude.{Result, Ok}
 use mathlib.Core.Path.{◌≡◌, refl, sym, ap, ◌∙◌}
 use Prim.Native.Nat.{ℕ}
 use mathlib.Core.List.{List, []}
@@ -10,7 +11,6 @@ use Rattle.octets.specs.Octets.{octet}
 use Rattle.octets.proofs.Writing.{put_none}
 use Rattle.hci.specs.Read.{parse_command, parameters}
 use Rattle.hci.specs.declared.read.Command.{Command}
-use Rattle.hci.specs.declared.read.CommandRead.TheVariants as command
 use Rattle.hci.proofs.Readers.{command_tells}
 use Rattle.profile.specs.Profile.{row_answer}
 use Rattle.state.specs.State.{Model, view, count_command}
@@ -21,13 +21,14 @@ use Rattle.commands.specs.Outcome.{Outcome, Given, given}
 use Rattle.commands.specs.Command.{by_row}
 use Rattle.commands.specs.Command as whole
 use Rattle.command.specs.declared.Told.{Told}
-use Rattle.command.specs.declared.course.Course.{Course}
+use Rattle.dispatch.specs.declared.Part.{Part}
+use Rattle.command.specs.declared.course.Reason.{Reason}
 use Rattle.command.specs.Calling.{Gave}
 use Rattle.calls.specs.Packets.{Profile, Reply, reply, by_command}
 use Rattle.receive.specs.Receiving.{IsCommand, Carries}
 
 -- as many parameters as the length says
-pub params_long : (p : List ℕ) {it : Command} → parse_command p ≡ command.Whole it → length (parameters p) ≡ it.len
+pub params_long : (p : List ℕ) {it : Command} → parse_command p ≡ Ok it → length (parameters p) ≡ it.len
 params_long p read =
     let tells = command_tells p read in
     simp (length-take-le (octet p 3) (drop 4 p) (simp length-drop (omega (arith, tells.long, tells.present)))) (sym tells.long)
@@ -44,7 +45,7 @@ module _ {g : Profile} {address : List ℕ} {random : ℕ} {p : List ℕ} {s t :
 
 -- the command's outcome f, by its course
 module _ {g : Profile} {address : List ℕ} {random : ℕ} {p : List ℕ} {s : Controller} {out : List ℕ} where
-  pub carries_course : {op : ℕ} {course : Course} {r : Told} {after : List ℕ} (f : Given → Model → Outcome)
+  pub carries_course : {op : ℕ} {course : Result Part Reason} {r : Told} {after : List ℕ} (f : Given → Model → Outcome)
       → (c : IsCommand g.opcodes g.answers s.settings.advertising_family p op course)
       → ((h : Given) (m : Model) → length h.params ≡ c.it.len → m.settings.advertising_family ≡ s.settings.advertising_family
       → by_row h (row_answer g.opcodes g.answers op) op m ≡ f h m)

@@ -1,18 +1,17 @@
 -- Which data packets are accepted, and what a packet gives that is queued or dropped, from what `enqueue` and `dropped` give. For
 -- `data`.
+use Rattle.std.specs.Prelude.{Result, Ok}
 use mathlib.Core.Path.{◌≡◌, refl, sym, ap, ◌∙◌}
 use Prim.Native.Nat.{ℕ, ◌+◌, ◌≤◌, ◌<◌}
 use mathlib.Core.List.{List}
 use mathlib.Core.Bool.{Bool, true, false, cond, ◌&&◌, and_assoc}
 use lib.ListN.{length, length-map, take}
-use lib.Dec.{leb, ltb, eqb}
+use lib.Dec.{leb, ltb}
 use lib.Seq.{length-take-le}
 use native.Mathlib.Omega.{arith}
-use borrow.Author.Tests.{lt-leb, le-leb, lt-ltb, le-ltb, eq-eqb, ne_eqb}
+use borrow.Author.Tests.{lt-leb, le-leb, lt-ltb, le-ltb}
 use Rattle.hci.specs.Read.{parse_acl}
 use Rattle.hci.specs.declared.read.Acl.{Acl}
-use Rattle.hci.specs.declared.read.AclRead.{AclRead}
-use Rattle.hci.specs.declared.read.AclRead.TheVariants as acl
 use Rattle.profile.specs.declared.ControllerRow.{ControllerRow}
 use Rattle.links.specs.declared.Waiting.{Waiting}
 use Rattle.links.specs.declared.Links.{Links}
@@ -30,22 +29,15 @@ use Rattle.calls.specs.Calls.{held}
 use Rattle.calls.specs.Gives.{PoolAfter, Stored}
 use Rattle.receive.specs.Receiving.{Delivers, put_delivered}
 use Rattle.receive.specs.declared.Delivered.{Delivered}
+use Rattle.hci.specs.declared.read.ReadError.{ReadError}
 
 -- the buffers in use, in the code's numbers
 pub in_use_lem : (s : Links) → length s.waiting ≡ 32 → s.waiting_count ≤ 32
     → (size : ℕ) (pool : List ℕ) → links.in_use (links.view s size pool) ≡ s.waiting_count + s.in_flight
 in_use_lem s wide few size pool = simp (length-map, length-take-le s.waiting_count s.waiting (omega (arith, wide, few)))
 
--- the flags of a packet that is for one link, and of one that is for more
-module _ (it : Acl) where
-  pub one_link : it.broadcast ≡ 0 → leb it.boundary 2 ≡ flags_served it
-  one_link e = rw (eq-eqb it.broadcast 0 e)
-
-  pub broadcast : (it.broadcast ≡ 0 → ⊥) → eqb it.broadcast 0 ≡ flags_served it
-  broadcast e = rw (ne_eqb it.broadcast 0 e)
-
 -- the tests of a packet with this header
-module _ (k : ControllerRow) {header : AclRead} {it : Acl} (m : Model) (read : header ≡ acl.Whole it) where
+module _ (k : ControllerRow) {header : Result Acl ReadError} {it : Acl} (m : Model) (read : header ≡ Ok it) where
   -- whether it is for a link that is there
   abbrev linked : Bool
   linked = flags_served it && links.has it.handle m.links.connections
@@ -88,7 +80,7 @@ module _ {k : ControllerRow} {p : List ℕ} {s : Controller} {pool : List ℕ} (
       }
 
   -- one that is accepted waits last
-  pub delivers_queued : {it : Acl} {r : List Waiting} {after : List ℕ} {x : Counters} → parse_acl p ≡ acl.Whole it
+  pub delivers_queued : {it : Acl} {r : List Waiting} {after : List ℕ} {x : Counters} → parse_acl p ≡ Ok it
       → accepts k (parse_acl p) (view s (place_size k) pool) ≡ true
       → Queued s.links (place_size k) k.acl_count it.handle (take (it.len + 5) p) pool r after
       → x ≡ count_packet s.counters

@@ -2,4 +2,3 @@
 pub mod Carrying
 pub mod Delivering
 pub mod Accepting
-pub mod Tasking

@@ -1,11 +1,10 @@
 -- What a packet asks for, what receiving it counts on and what it gives. `Rattle.calls.specs.Gives` says what `on_packet` gives. For
 -- the controller's `on_packet`, which has asked the questions.
-use Rattle.std.specs.Prelude.{◌≡◌, ℕ, ◌*◌, ◌≤◌, List, [], ◌⊎◌, length}
+use Rattle.std.specs.Prelude.{◌≡◌, ℕ, ◌*◌, ◌≤◌, List, [], Result, Ok, Err, ◌⊎◌, length}
 use Rattle.octets.specs.Octets.{octet, Put}
 use Rattle.hci.specs.Read.{parse_command, parameters, parse_acl}
 use Rattle.hci.specs.declared.read.Command.{Command}
-use Rattle.hci.specs.declared.read.CommandRead.{CommandRead}
-use Rattle.hci.specs.declared.read.CommandRead.TheVariants as command
+use Rattle.hci.specs.declared.read.ReadError.{ReadError}
 use Rattle.profile.specs.declared.ControllerRow.{ControllerRow}
 use Rattle.profile.specs.Profile.{row_answer}
 use Rattle.state.specs.State.{Model, view}
@@ -13,8 +12,8 @@ use Rattle.state.specs.Holding.{StateHolds, place_size}
 use Rattle.state.specs.declared.Controller.{Controller}
 use Rattle.commands.specs.Outcome.{Ready}
 use Rattle.commands.specs.Put.{put_links, put_counters}
-use Rattle.command.specs.declared.course.Course.{Course}
-use Rattle.command.specs.declared.course.Course.TheVariants as course
+use Rattle.dispatch.specs.declared.Part.{Part}
+use Rattle.command.specs.declared.course.Reason.{Reason}
 use Rattle.command.specs.Calling.{Courses}
 use Rattle.calls.specs.Packets.{Profile, reply, accepts, stored, data_packet, by_command}
 use Rattle.calls.specs.Calls.{Held}
@@ -26,19 +25,17 @@ use Rattle.receive.specs.declared.Task.TheVariants as task
 -- ---- what a packet asks for
 
 -- a command packet p that is read whole, with this opcode, and its course, where `family` is the advertising family of the state
-pub record IsCommand (opcodes answers : List ℕ) (family : ℕ) (p : List ℕ) (op : ℕ) (course : Course) : Type 0 where
+pub record IsCommand (opcodes answers : List ℕ) (family : ℕ) (p : List ℕ) (op : ℕ) (course : Result Part Reason) : Type 0 where
   pub first : octet p 0 ≡ 1
   pub it : Command
-  pub read : parse_command p ≡ command.Whole it
+  pub read : parse_command p ≡ Ok it
   pub opcode : it.opcode ≡ op
   pub courses : Courses (row_answer opcodes answers op) op family it.len course
 
 -- the parameters of a command that is read whole; nothing is read of another packet
-abbrev pub parameters_of : CommandRead → List ℕ → List ℕ
-parameters_of (command.Whole it) p = parameters p
-parameters_of command.ShortHeader p = []
-parameters_of command.NotCommand p = []
-parameters_of command.ShortParameters p = []
+abbrev pub parameters_of : Result Command ReadError → List ℕ → List ℕ
+parameters_of (Ok it) p = parameters p
+parameters_of (Err e) p = []
 
 -- a packet of another kind, or a command that is cut short
 abbrev pub Quiet : List ℕ → Type 0
@@ -49,15 +46,15 @@ Quiet p =
 abbrev pub Tasks : List ℕ → List ℕ → ℕ → List ℕ → Task → Type 0
 Tasks opcodes answers family p task.Nothing = Quiet p
 Tasks opcodes answers family p task.Data = octet p 0 ≡ 2
-Tasks opcodes answers family p (task.Answered op reason) = IsCommand opcodes answers family p op (course.Answered reason)
-Tasks opcodes answers family p (task.Carried op part) = IsCommand opcodes answers family p op (course.Carried part)
+Tasks opcodes answers family p (task.Answered op reason) = IsCommand opcodes answers family p op (Err reason)
+Tasks opcodes answers family p (task.Carried op part) = IsCommand opcodes answers family p op (Ok part)
 
 -- the task of a command with this opcode and so many parameters
 abbrev pub CommandTask : List ℕ → List ℕ → ℕ → ℕ → ℕ → Task → Type 0
 CommandTask opcodes answers family op n task.Nothing = ⊥
 CommandTask opcodes answers family op n task.Data = ⊥
-CommandTask opcodes answers family op n (task.Answered o reason) = (o ≡ op) × Courses (row_answer opcodes answers op) op family n (course.Answered reason)
-CommandTask opcodes answers family op n (task.Carried o part) = (o ≡ op) × Courses (row_answer opcodes answers op) op family n (course.Carried part)
+CommandTask opcodes answers family op n (task.Answered o reason) = (o ≡ op) × Courses (row_answer opcodes answers op) op family n (Err reason)
+CommandTask opcodes answers family op n (task.Carried o part) = (o ≡ op) × Courses (row_answer opcodes answers op) op family n (Ok part)
 
 -- ---- what it counts on and gives
 

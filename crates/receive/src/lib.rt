@@ -1,7 +1,7 @@
 // A packet from the host, by its first octet: what it asks for, a command's parameters, and data, which is queued for its link or
-// dropped (`on_packet` and `acl` of the source). For the controller's `on_packet`, which asks its questions first and has commands
-// carried out. Data gives the parts of the state that it changes, and the state is put together where the call returns: were the
-// whole state to go through, it would be copied more often (docs/SPEED.md). Contracts cite `specs/Receiving.antt`.
+// dropped (`on_packet` and `acl` of the source). For the controller's `on_packet`, which asks its questions first and has
+// commands carried out. Data gives the parts of the state that it changes, and the state is put together where the call returns:
+// were the whole state to go through, it would be copied more often (docs/SPEED.md). Contracts cite `specs/Receiving.antt`.
 #![tactic(auto)]
 
 ghost use Rattle.std.specs.Prelude.{◌≡◌, true, ◌&&◌, ◌≤◌};
@@ -13,10 +13,10 @@ ghost use Rattle.calls.specs.Calls.{held};
 ghost use Rattle.state.specs.State.{count_dropped};
 ghost use Rattle.receive.specs.Receiving.{CanStore, Delivers, put_delivered, parameters_of, Tasks, CommandTask};
 
-use command::{Course, Reason, Told};
+use command::{Reason, Told};
 use dispatch::Part;
 use h4::{H4_ACL, H4_COMMAND};
-use hci::{Acl, AclRead, Command, CommandRead};
+use hci::{Acl, Command};
 use links::Links;
 use profile::ControllerRow;
 use state::{Controller, Counters};
@@ -36,22 +36,13 @@ pub fn task_of(opcodes: &[u16], answers: &[u8], family: u8, packet: &[u8]) -> Ta
     requires { answers_fit opcodes.now answers.now ≡ true }
     ensures { Tasks opcodes.now answers.now family packet.now result }
 {
-    if packet.len() == 0 {
-        return Task::Nothing;
-    }
-    let kind = packet[0];
-    if kind == H4_ACL {
-        return Task::Data;
-    }
-    if kind != H4_COMMAND {
-        return Task::Nothing;
-    }
-    let read = Command::parse(packet);
-    match read {
-        CommandRead::Whole(c) => command_task(opcodes, answers, family, c.opcode, c.len),
-        CommandRead::ShortHeader => Task::Nothing,
-        CommandRead::NotCommand => Task::Nothing,
-        CommandRead::ShortParameters => Task::Nothing,
+    match packet.first() {
+        Some(&H4_ACL) => Task::Data,
+        Some(&H4_COMMAND) => match Command::parse(packet) {
+            Ok(c) => command_task(opcodes, answers, family, c.opcode, c.len),
+            Err(_) => Task::Nothing,
+        },
+        _ => Task::Nothing,
     }
 }
 
@@ -61,24 +52,20 @@ fn command_task(opcodes: &[u16], answers: &[u8], family: u8, op: u16, len: u8) -
     ensures { CommandTask opcodes.now answers.now family op len result }
 {
     let answering = profile::row_answer(opcodes, answers, op);
-    let course = command::course_of(answering, op, family, len as usize);
-    match course {
-        Course::Answered(reason) => Task::Answered(op, reason),
-        Course::Carried(part) => Task::Carried(op, part),
+    match command::course_of(answering, op, family, usize::from(len)) {
+        Ok(part) => Task::Carried(op, part),
+        Err(reason) => Task::Answered(op, reason),
     }
 }
 
-// The parameters of a command: the part of the packet from its fifth octet, as many as its length says. Empty where the packet is no
-// command, or is cut short.
+// The parameters of a command: the part of the packet from its fifth octet, as many as its length says. Empty where the packet is
+// no command, or is cut short.
 pub fn parameters(packet: &[u8]) -> &[u8]
     ensures { result.now ≡ parameters_of (parse_command packet.now) packet.now }
 {
     match Command::parse(packet) {
-        CommandRead::Whole(c) => {
-            let end = 4 + (c.len as usize);
-            &packet[4..end]
-        }
-        _ => &packet[..0],
+        Ok(c) => &packet[4..4 + usize::from(c.len)],
+        Err(_) => &packet[..0],
     }
 }
 
@@ -95,10 +82,8 @@ impl Delivered {
         ensures { (result.number ≡ 0) × (result.written ≡ 0) × (result.state ≡ put_delivered self s) }
     {
         let mut t = s;
-        let counters = self.counters;
-        t.counters = counters;
-        let links = self.links;
-        t.links = links;
+        t.counters = self.counters;
+        t.links = self.links;
         Told {
             number: 0,
             state: t,
@@ -111,12 +96,9 @@ impl Delivered {
 fn dropped(s: Controller) -> Delivered
     ensures { result ≡ record { counters = count_dropped s.counters; links = s.links } }
 {
-    let links = s.links;
-    let counters = s.counters;
-    let more = counters.count_dropped();
     Delivered {
-        counters: more,
-        links,
+        counters: s.counters.count_dropped(),
+        links: s.links,
     }
 }
 
@@ -142,35 +124,25 @@ pub fn data(s: Controller, profile: ControllerRow, pool: &mut [u8], packet: &[u8
     requires { CanStore s profile pool.old }
     ensures { Delivers profile packet.now (held s pool.old) (held (put_delivered result s) pool.new) }
 {
-    let counters = s.counters;
     let links = s.links;
-    let read = Acl::parse(packet);
-    match read {
-        AclRead::Whole(header) => {
-            if !has_link(header, links) {
-                return dropped(s);
-            }
-            if header.len > profile.acl_len {
-                return dropped(s);
-            }
-            let places = profile.acl_count as usize;
-            if links::buffers_in_use(links) >= places {
-                return dropped(s);
-            }
-            let size = (profile.acl_len as usize) + 5;
-            let n = (header.len as usize) + 5;
-            let waiting = transmit::enqueue(links, pool, size, places, header.handle, packet, n);
-            let mut after = links;
-            after.waiting = waiting;
-            after.waiting_count = links.waiting_count + 1;
-            let more = counters.count_packet();
-            Delivered {
-                counters: more,
-                links: after,
-            }
-        }
-        AclRead::ShortHeader => dropped(s),
-        AclRead::NotAcl => dropped(s),
-        AclRead::ShortData => dropped(s),
+    let Ok(header) = Acl::parse(packet) else {
+        return dropped(s);
+    };
+    if !has_link(header, links) || header.len > profile.acl_len {
+        return dropped(s);
+    }
+    let places = usize::from(profile.acl_count);
+    if links::buffers_in_use(links) >= places {
+        return dropped(s);
+    }
+    let size = usize::from(profile.acl_len) + 5;
+    let n = usize::from(header.len) + 5;
+    let waiting = transmit::enqueue(links, pool, size, places, header.handle, packet, n);
+    let mut after = links;
+    after.waiting = waiting;
+    after.waiting_count = links.waiting_count + 1;
+    Delivered {
+        counters: s.counters.count_packet(),
+        links: after,
     }
 }

@@ -11,13 +11,12 @@ use lib.ListN.{length, take, drop, get_or}
 use borrow.Author.Rules.{part_to_end}
 use borrow.Author.Tests.{eq-eqb, ne_eqb, eqb-true, ltb-true}
 use borrow.Table.Steps.{cases}
+use Rattle.std.specs.Prelude.{Option, Some, None}
 use Rattle.lists.specs.Lists.{first_at, any, all, same_list}
 use Rattle.lists.proofs.Tests.{any_first}
 use Rattle.calls.specs.Calls.{take_transmit, completed}
 use Rattle.records.specs.Lines.{Line, calls, no_record, fields, is_number, read_fields, read_line}
 use Rattle.records.specs.Reading.{is_tab, pair_of}
-use Rattle.records.specs.declared.read.Pair.{Pair}
-use Rattle.records.specs.declared.read.Pair.TheVariants.{Two, NoPair}
 
 -- what stands from index i on, as the code lends it
 abbrev pub behind : List ℕ → ℕ → List ℕ
@@ -49,12 +48,12 @@ fields_first (x ∷ l) h =
     cases (eqb x 9) (λ e. rw e) (λ e. rw (e, fields_first l (le_of_suc-le-suc (rw e at h))))
 
 -- there is always a first field
-pub record Some (fs : List (List ℕ)) : Type 0 where
+pub record SomeField (fs : List (List ℕ)) : Type 0 where
   pub first : List ℕ
   pub more : List (List ℕ)
   pub is : fs ≡ first ∷ more
 
-pub fields_some : (l : List ℕ) → Some (fields l)
+pub fields_some : (l : List ℕ) → SomeField (fields l)
 fields_some l =
     cases (any is_tab l) (λ e. record { first = _; more = _; is = fields_first l (ltb-true _ _ (sym (any_first is_tab l) ∙ e)) })
     (λ e. record { first = _; more = _; is = fields_alone l e })
@@ -80,19 +79,19 @@ fields_several l e =
 -- ---- the letter
 
 -- what a line with a pair of numbers says: `T` 84, `C` 67
-abbrev pub pair_line : ℕ → Pair → Line
-pair_line x (Two a b) = cond (eqb x 84) (calls (take_transmit a b)) (cond (eqb x 67) (calls (completed a b)) no_record)
-pair_line x NoPair = no_record
+abbrev pub pair_line : ℕ → Option (ℕ × ℕ) → Line
+pair_line x (Some (a, b)) = cond (eqb x 84) (calls (take_transmit a b)) (cond (eqb x 67) (calls (completed a b)) no_record)
+pair_line x None = no_record
 
 -- a choice of two that are the same
 pub same : {A : Type 0} (b : Bool) (a : A) → cond b a a ≡ a
 same true a = refl
 same false a = refl
 
--- no such line has a tab for its letter
-no_pair : (p : Pair) → pair_line 9 p ≡ no_record
-no_pair (Two a b) = refl
-no_pair NoPair = refl
+-- no such line has another letter, as a tab
+no_letter : (x : ℕ) (p : Option (ℕ × ℕ)) → eqb x 84 ≡ false → eqb x 67 ≡ false → pair_line x p ≡ no_record
+no_letter x (Some (a, b)) u v = rw (u, v)
+no_letter x None u v = refl
 
 -- an empty first field
 letter_none : (fs : List (List ℕ)) → read_fields ([] ∷ fs) ≡ no_record
@@ -164,13 +163,12 @@ module _ (line : List ℕ) (x : ℕ) (h : 2 ≤ length line) (t : get_or line 1 
   line_letter n = rw (part_to_end line 2) (letter_tab line x h t e n)
 
   -- neither `P` nor `O`
-  pub line_pair : (p : Pair) → eqb x 80 ≡ false → eqb x 79 ≡ false → p ≡ pair_of (fields (behind line 2)) → pair_line x p ≡ read_line line
+  pub line_pair : (p : Option (ℕ × ℕ)) → eqb x 80 ≡ false → eqb x 79 ≡ false → p ≡ pair_of (fields (behind line 2)) → pair_line x p ≡ read_line line
   line_pair p n o q =
       cases (eqb x 9)
-      (λ u. let z = eqb-true x 9 u in rw z (no_pair p) ∙ line_tab line h (e ∙ z))
+      (λ u. let z = eqb-true x 9 u in rw z (no_letter 9 p refl refl) ∙ line_tab line h (e ∙ z))
       (λ u. rw q (sym (letter_pair x (fields (behind line 2)) n o)) ∙ line_letter u)
 
   -- and neither `T` nor `C`
-  pub line_other : (a b : ℕ) → eqb x 80 ≡ false → eqb x 79 ≡ false → eqb x 84 ≡ false → eqb x 67 ≡ false
-      → Two a b ≡ pair_of (fields (behind line 2)) → no_record ≡ read_line line
-  line_other a b n o u v q = rw (u, v) at (line_pair (Two a b) n o q)
+  pub line_other : eqb x 80 ≡ false → eqb x 79 ≡ false → eqb x 84 ≡ false → eqb x 67 ≡ false → no_record ≡ read_line line
+  line_other n o u v = sym (no_letter x (pair_of (fields (behind line 2))) u v) ∙ line_pair (pair_of (fields (behind line 2))) n o refl

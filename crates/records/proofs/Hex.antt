@@ -11,6 +11,8 @@ use lib.ListN.{length, take, drop, get_or, set, replicate, length-set}
 use lib.Seq.{drop-cons, drop-length, take-suc-set, append_snoc}
 use borrow.Author.Tests.{le-leb, lt-leb, leb-true, eq-eqb, ne_eqb}
 use borrow.Table.Steps.{cases}
+use Rattle.std.specs.Prelude.{Some, None}
+use Rattle.std.proofs.lemmas.Option.{none-some, cond_some}
 use Rattle.lists.specs.Lists.{any, all, same_list}
 use Rattle.calls.specs.Calls.{on_packet}
 use Rattle.records.specs.Lines.{calls, no_record, fields, is_hex_digit, hex_value, octets_of, is_packet, is_number, read_fields}
@@ -20,30 +22,27 @@ use Rattle.records.proofs.Fields.{tabless, fields_alone, fields_several, same}
 -- ---- the value of a digit
 
 module _ (x : ℕ) where
-  pub digit_below : x < 48 → 16 ≡ digit_of x
-  unfolding digit_of
-  digit_below h = rw (lt-leb 48 x h, lt-leb 97 x (omega arith))
-
-  pub digit_decimal : 48 ≤ x → x ≤ 57 → x - 48 ≡ digit_of x
+  pub digit_decimal : 48 ≤ x → x ≤ 57 → Some (x - 48) ≡ digit_of x
   unfolding digit_of
   digit_decimal h k = rw (le-leb 48 x h, le-leb x 57 k)
 
-  pub digit_between : 57 < x → x < 97 → 16 ≡ digit_of x
+  pub digit_letter : 97 ≤ x → x ≤ 102 → Some (x - 97 + 10) ≡ digit_of x
+  unfolding digit_of
+  digit_letter h k =
+      let e : x - 97 + 10 ≡ x - 87 = omega arith in
+      rw (le-leb 48 x (omega arith), lt-leb x 57 (omega arith), le-leb 97 x h, le-leb x 102 k) (ap Some e)
+
+  pub digit_below : x < 48 → None ≡ digit_of x
+  unfolding digit_of
+  digit_below h = rw (lt-leb 48 x h, lt-leb 97 x (omega arith))
+
+  pub digit_between : 57 < x → x < 97 → None ≡ digit_of x
   unfolding digit_of
   digit_between h k = rw (le-leb 48 x (omega arith), lt-leb x 57 h, lt-leb 97 x k)
 
-  pub digit_letter : 97 ≤ x → x ≤ 102 → x - 97 + 10 ≡ digit_of x
-  unfolding digit_of
-  digit_letter h k = rw (le-leb 48 x (omega arith), lt-leb x 57 (omega arith), le-leb 97 x h, le-leb x 102 k) (omega arith)
-
-  pub digit_above : 102 < x → 16 ≡ digit_of x
+  pub digit_above : 102 < x → None ≡ digit_of x
   unfolding digit_of
   digit_above h = rw (le-leb 48 x (omega arith), lt-leb x 57 (omega arith), le-leb 97 x (omega arith), lt-leb x 102 h)
-
-  -- below 16: a digit, and its value
-  pub digit_yes : digit_of x < 16 → (is_hex_digit x ≡ true) × (digit_of x ≡ hex_value x)
-  unfolding digit_of
-  digit_yes h = cases (is_hex_digit x) (λ e. (e, rw e)) (λ e. absurd (let k = rw e at h in omega arith))
 
   -- the value of a digit is below 16
   value_small : is_hex_digit x ≡ true → hex_value x < 16
@@ -54,11 +53,17 @@ module _ (x : ℕ) where
       let k = leb-true x 102 ((and-eq-true_iff (leb 97 x) (leb x 102)).0 letter).1 in
       rw e (omega arith))
 
-  -- 16: no digit
-  pub digit_no : 16 ≤ digit_of x → is_hex_digit x ≡ false
+  -- a digit, its value, and no digit
+  pub digit_yes : {n : ℕ} → Some n ≡ digit_of x → (is_hex_digit x ≡ true) × ((n ≡ hex_value x) × (n < 16))
+  unfolding digit_of
+  digit_yes {n} h =
+      let found = cond_some (is_hex_digit x) (hex_value x) n (sym h) in
+      (found.0, (sym found.1, omega (arith, value_small found.0, found.1)))
+
+  pub digit_no : None ≡ digit_of x → is_hex_digit x ≡ false
   unfolding digit_of
   digit_no h =
-      cases (is_hex_digit x) (λ e. absurd (let k = rw e at h in let m = value_small e in omega arith)) (λ e. e)
+      cases (is_hex_digit x) (λ e. absurd (none-some (hex_value x) (rw e at h))) (λ e. e)
 
 -- ---- pairs of digits
 
@@ -75,19 +80,16 @@ pub record Pairs (f before packet : List ℕ) (j : ℕ) : Type 0 where
   pub octets : octets_of f ≡ take j packet ++ octets_of (drop (2 * j) f)
   pub digits : all is_hex_digit f ≡ all is_hex_digit (drop (2 * j) f)
 
-pub pairs_none : (f packet : List ℕ) → Pairs f packet packet 0
-pairs_none f packet = record { long = refl; octets = refl; digits = refl }
-
 module _ {f before packet : List ℕ} {j : ℕ} (c : Pairs f before packet j) (h : 2 * j + 1 < length f) where
-  pub pairs_next : (high low : ℕ) → high ≡ digit_of (get_or f (2 * j) 0) → low ≡ digit_of (get_or f (2 * j + 1) 0) → high < 16 → low < 16
+  pub pairs_next : {high low : ℕ} → Some high ≡ digit_of (get_or f (2 * j) 0) → Some low ≡ digit_of (get_or f (2 * j + 1) 0)
       → j < length before → Pairs f before (set packet j (16 * high + low)) (j + 1)
   unfolding octets_of all
-  pairs_next high low a b p q room =
+  pairs_next {high} {low} a b room =
       let x = get_or f (2 * j) 0 in
       let y = get_or f (2 * j + 1) 0 in
-      let ex = digit_yes x (rw (sym a) p) in
-      let ey = digit_yes y (rw (sym b) q) in
-      let v : 16 * high + low ≡ 16 * hex_value x + hex_value y = rw (a, b, ex.1, ey.1) in
+      let ex = digit_yes x a in
+      let ey = digit_yes y b in
+      let v : 16 * high + low ≡ 16 * hex_value x + hex_value y = rw (ex.1.0, ey.1.0) in
       let next : 2 * (j + 1) ≡ 2 * j + 2 = omega arith in
       let more : drop (2 * j) f ≡ x ∷ y ∷ drop (2 * j + 2) f = two_ahead f (2 * j) h in
       let within : j < length packet = omega arith in
@@ -101,15 +103,15 @@ module _ {f before packet : List ℕ} {j : ℕ} (c : Pairs f before packet j) (h
       }
 
   -- a pair that is none
-  pub pairs_high : (high : ℕ) → high ≡ digit_of (get_or f (2 * j) 0) → 16 ≤ high → all is_hex_digit f ≡ false
+  pub pairs_high : None ≡ digit_of (get_or f (2 * j) 0) → all is_hex_digit f ≡ false
   unfolding all
-  pairs_high high a p = c.digits ∙ rw (two_ahead f (2 * j) h, digit_no (get_or f (2 * j) 0) (rw (sym a) p))
+  pairs_high a = c.digits ∙ rw (two_ahead f (2 * j) h, digit_no (get_or f (2 * j) 0) a)
 
-  pub pairs_low : (low : ℕ) → low ≡ digit_of (get_or f (2 * j + 1) 0) → 16 ≤ low → all is_hex_digit f ≡ false
+  pub pairs_low : None ≡ digit_of (get_or f (2 * j + 1) 0) → all is_hex_digit f ≡ false
   unfolding all
-  pairs_low low b p =
+  pairs_low b =
       c.digits
-      ∙ rw (two_ahead f (2 * j) h, digit_no (get_or f (2 * j + 1) 0) (rw (sym b) p)) (and-false (is_hex_digit (get_or f (2 * j) 0)))
+      ∙ rw (two_ahead f (2 * j) h, digit_no (get_or f (2 * j + 1) 0) b) (and-false (is_hex_digit (get_or f (2 * j) 0)))
 
 -- ---- the record of letter `P`
 

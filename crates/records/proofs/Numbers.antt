@@ -17,12 +17,9 @@ use Rattle.lists.proofs.Tests.{any_first}
 use Rattle.calls.specs.Calls.{open_connection}
 use Rattle.records.specs.Lines.{Line, calls, no_record, fields, is_digit, decimal, is_number, read_fields}
 use Rattle.records.specs.Reading.{is_tab, number_of, followed, first_of, pair_of}
-use Rattle.records.specs.declared.read.Number.{Number}
-use Rattle.records.specs.declared.read.Number.TheVariants.{Value, NotNumber}
-use Rattle.records.specs.declared.read.First.{First}
-use Rattle.records.specs.declared.read.First.TheVariants.{Then, NoFirst}
-use Rattle.records.specs.declared.read.Pair.{Pair}
-use Rattle.records.specs.declared.read.Pair.TheVariants.{Two, NoPair}
+use Rattle.std.specs.Prelude.{Option, Some, None, position}
+use Rattle.std.proofs.lemmas.Option.{none-some, same_Some, some_pair_parts}
+use Rattle.lists.proofs.Search.{position_some, position_none}
 use Rattle.records.proofs.Fields.{behind, tabless, fields_alone, fields_first, fields_some, fields_several, same}
 
 -- ---- the digits of a field
@@ -41,36 +38,26 @@ pub record Counting (f : List ℕ) (n i : ℕ) : Type 0 where
   pub value : decimal 0 f ≡ decimal n (drop i f)
   pub digits : all is_digit f ≡ all is_digit (drop i f)
 
-pub counting_none : (f : List ℕ) → (length f ≡ 0 → ⊥) → Counting f 0 0
-counting_none f h = record { some = omega arith; within = omega arith; small = omega arith; value = refl; digits = refl }
-
-pub counting_next : {f : List ℕ} {n i : ℕ} → Counting f n i → i < length f → 48 ≤ get_or f i 0 → get_or f i 0 ≤ 57
-    → 10 * n + (get_or f i 0 - 48) ≤ 65535 → Counting f (10 * n + (get_or f i 0 - 48)) (i + 1)
+pub counting_next : {f : List ℕ} {n i m : ℕ} → Counting f n i → i < length f → is_digit (get_or f i 0) ≡ true → m ≡ 10 * n + (get_or f i 0 - 48)
+    → m ≤ 65535 → Counting f m (i + 1)
 unfolding decimal all
-counting_next {f} {n} {i} c h low high most = record {
+counting_next {f} {n} {i} {m} c h digit e most = record {
   some = c.some;
   within = omega arith;
   small = most;
-  value = c.value ∙ rw (add-one, drop-cons f i 0 h);
-  digits = c.digits ∙ rw (add-one, drop-cons f i 0 h, le-leb 48 (get_or f i 0) low, le-leb (get_or f i 0) 57 high);
+  value = c.value ∙ rw (add-one, drop-cons f i 0 h, e);
+  digits = c.digits ∙ rw (add-one, drop-cons f i 0 h, digit);
 }
 
 -- a character that is no digit
-no_digits : (f : List ℕ) → all is_digit f ≡ false → NotNumber ≡ number_of f
-unfolding number_of is_number
-no_digits f e = rw (e, and-false (leb 1 (length f)))
-
-pub counting_below : {f : List ℕ} {n i : ℕ} → Counting f n i → i < length f → get_or f i 0 < 48 → NotNumber ≡ number_of f
-unfolding all
-counting_below {f} {n} {i} c h low = no_digits f (c.digits ∙ rw (drop-cons f i 0 h, lt-leb 48 (get_or f i 0) low))
-
-pub counting_above : {f : List ℕ} {n i : ℕ} → Counting f n i → i < length f → 57 < get_or f i 0 → NotNumber ≡ number_of f
-unfolding all
-counting_above {f} {n} {i} c h high =
-    no_digits f (c.digits ∙ rw (drop-cons f i 0 h, lt-leb (get_or f i 0) 57 high, and-false (leb 48 (get_or f i 0))))
+pub counting_other : {f : List ℕ} {n i : ℕ} → Counting f n i → i < length f → is_digit (get_or f i 0) ≡ false → None ≡ number_of f
+unfolding number_of is_number all
+counting_other {f} {n} {i} c h other =
+    let e : all is_digit f ≡ false = c.digits ∙ rw (drop-cons f i 0 h, other) in
+    rw (e, and-false (leb 1 (length f)))
 
 -- the number is too large already
-pub counting_past : {f : List ℕ} {n i : ℕ} → Counting f n i → i < length f → 65535 < 10 * n + (get_or f i 0 - 48) → NotNumber ≡ number_of f
+pub counting_past : {f : List ℕ} {n i : ℕ} → Counting f n i → i < length f → 65535 < 10 * n + (get_or f i 0 - 48) → None ≡ number_of f
 unfolding number_of is_number decimal
 counting_past {f} {n} {i} c h most =
     let m = 10 * n + (get_or f i 0 - 48) in
@@ -80,7 +67,7 @@ counting_past {f} {n} {i} c h most =
     rw (z, and-false (all is_digit f), and-false (leb 1 (length f)))
 
 -- all digits are read
-pub counting_all : {f : List ℕ} {n i : ℕ} → Counting f n i → length f ≤ i → Value n ≡ number_of f
+pub counting_all : {f : List ℕ} {n i : ℕ} → Counting f n i → length f ≤ i → Some n ≡ number_of f
 unfolding number_of is_number decimal all
 counting_all {f} {n} {i} c h =
     let l : i ≡ length f = omega arith in
@@ -89,7 +76,7 @@ counting_all {f} {n} {i} c h =
     rw (le-leb 1 (length f) c.some, d, e, le-leb n 65535 c.small)
 
 -- an empty field is no number
-pub counting_empty : (f : List ℕ) → length f ≡ 0 → NotNumber ≡ number_of f
+pub counting_empty : (f : List ℕ) → length f ≡ 0 → None ≡ number_of f
 unfolding number_of is_number
 counting_empty f e = rw (lt-leb 1 (length f) (omega arith))
 
@@ -101,28 +88,22 @@ pub record Last (l : List ℕ) (n : ℕ) : Type 0 where
   pub number : is_number l ≡ true
   pub value : decimal 0 l ≡ n
 
-pub last_yes : (l : List ℕ) (n : ℕ) → Value n ≡ number_of l → Last l n
+pub last_yes : (l : List ℕ) (n : ℕ) → Some n ≡ number_of l → Last l n
 unfolding number_of is_number
 last_yes l n h =
     cases (is_number l)
     (λ e.
-    let v : ◌≡◌ {A = Number} (Value n) (Value (decimal 0 l)) = rw e at h in
+    let v : Some n ≡ Some (decimal 0 l) = rw e at h in
     let d = ((and-eq-true_iff (all is_digit l) (leb (decimal 0 l) 65535)).0 ((and-eq-true_iff (leb 1 (length l)) _).0 e).1).0 in
-    record { alone = fields_alone l (tabless is_digit l refl d); number = e; value = cc })
-    (λ e.
-    let v : ◌≡◌ {A = Number} (Value n) NotNumber = rw e at h in
-    let z : ◌≡◌ {A = ℕ} 0 1 = cc in
-    absurd (omega arith))
+    record { alone = fields_alone l (tabless is_digit l refl d); number = e; value = sym (same_Some _ _ v) })
+    (λ e. absurd (none-some n (sym (rw e at h))))
 
 -- a field that is no number
-number_no : (l : List ℕ) → number_of l ≡ NotNumber → is_number l ≡ false
+number_no : (l : List ℕ) → number_of l ≡ None → is_number l ≡ false
 unfolding number_of
 number_no l h =
     cases (is_number l)
-    (λ y.
-    let v : ◌≡◌ {A = Number} (Value (decimal 0 l)) NotNumber = rw y at h in
-    let z : ◌≡◌ {A = ℕ} 0 1 = cc in
-    absurd (omega arith))
+    (λ y. absurd (none-some (decimal 0 l) (sym (rw y at h))))
     (λ n. n)
 
 -- the field up to the end is no number, or there are several
@@ -130,7 +111,7 @@ pub data NotLast : List (List ℕ) → Type 0 where
   lone : (f : List ℕ) → is_number f ≡ false → NotLast (f ∷ [])
   several : (f g : List ℕ) (fs : List (List ℕ)) → NotLast (f ∷ g ∷ fs)
 
-pub last_no : (l : List ℕ) → NotNumber ≡ number_of l → NotLast (fields l)
+pub last_no : (l : List ℕ) → None ≡ number_of l → NotLast (fields l)
 last_no l h =
     cases (any is_tab l) (λ e. let s = fields_several l e in rw s.is (several s.first s.second s.more))
     (λ e. rw (fields_alone l e) (lone l (number_no l (sym h))))
@@ -146,11 +127,11 @@ pub record Headed (l : List ℕ) (n i : ℕ) : Type 0 where
   pub value : decimal 0 field ≡ n
 
 -- by what the first field says: a number, or none
-followed_yes : (m : Number) (i k n : ℕ) → Then n i ≡ followed m k → (m ≡ Value n) × (i ≡ k)
-followed_yes (Value x) i k n e = (cc, cc)
-followed_yes NotNumber i k n e = let z : ◌≡◌ {A = ℕ} 0 1 = cc in absurd (omega arith)
+followed_yes : (m : Option ℕ) (i k n : ℕ) → Some (n, i) ≡ followed m k → (m ≡ Some n) × (i ≡ k)
+followed_yes (Some x) i k n e = let same = some_pair_parts n x i k e in (ap Some (sym same.0), same.1)
+followed_yes None i k n e = absurd (none-some (n, i) (sym e))
 
-pub head_yes : (l : List ℕ) (n i : ℕ) → Then n i ≡ first_of l → Headed l n i
+pub head_yes : (l : List ℕ) (n i : ℕ) → Some (n, i) ≡ first_of l → Headed l n i
 unfolding first_of
 head_yes l n i h =
     let k = first_at is_tab l in
@@ -166,21 +147,18 @@ head_yes l n i h =
       number = w.number;
       value = w.value;
     })
-    (λ e.
-    let v : ◌≡◌ {A = First} (Then n i) NoFirst = rw e at h in
-    let z : ◌≡◌ {A = ℕ} 0 1 = cc in
-    absurd (omega arith))
+    (λ e. absurd (none-some (n, i) (sym (rw e at h))))
 
 -- the first field is no number, or no other follows
 pub data Headless : List (List ℕ) → Type 0 where
   single : (f : List ℕ) → Headless (f ∷ [])
   wrong : (f g : List ℕ) (fs : List (List ℕ)) → is_number f ≡ false → Headless (f ∷ g ∷ fs)
 
-followed_no : (m : Number) (k : ℕ) → NoFirst ≡ followed m k → m ≡ NotNumber
-followed_no (Value x) k e = let z : ◌≡◌ {A = ℕ} 0 1 = cc in absurd (omega arith)
-followed_no NotNumber k e = refl
+followed_no : (m : Option ℕ) (k : ℕ) → None ≡ followed m k → m ≡ None
+followed_no (Some x) k e = absurd (none-some (x, k) e)
+followed_no None k e = refl
 
-pub head_no : (l : List ℕ) → NoFirst ≡ first_of l → Headless (fields l)
+pub head_no : (l : List ℕ) → None ≡ first_of l → Headless (fields l)
 unfolding first_of
 head_no l h =
     let k = first_at is_tab l in
@@ -191,40 +169,48 @@ head_no l h =
     rw (fields_first l (ltb-true k (length l) e), s.is) (wrong (take k l) s.first s.more n))
     (λ e. rw (fields_alone l (any_first is_tab l ∙ e)) (single l))
 
--- how the code finds out, where i is the index of the first tab
-module _ (l : List ℕ) (i : ℕ) (e : i ≡ first_at is_tab l) where
-  pub first_tabless : length l ≤ i → NoFirst ≡ first_of l
+-- how the code finds out
+module _ (l : List ℕ) where
+  pub first_tabless : None ≡ position is_tab l → None ≡ first_of l
   unfolding first_of
-  first_tabless h = rw (le-ltb (first_at is_tab l) (length l) (omega arith))
+  first_tabless h = rw (le-ltb (first_at is_tab l) (length l) (position_none is_tab l (sym h)))
 
-  pub first_no_lem : i < length l → NotNumber ≡ number_of (take i l) → NoFirst ≡ first_of l
-  unfolding first_of
-  first_no_lem h n = rw (sym e, lt-ltb i (length l) h, sym n)
+  module _ (i : ℕ) (found : Some i ≡ position is_tab l) where
+    pub first_no_lem : None ≡ number_of (take i l) → None ≡ first_of l
+    unfolding first_of
+    first_no_lem n =
+        let p = position_some is_tab l i (sym found) in
+        rw (sym p.0, lt-ltb i (length l) p.1, sym n)
 
-  pub first_yes : (n : ℕ) → i < length l → Value n ≡ number_of (take i l) → Then n (i + 1) ≡ first_of l
-  unfolding first_of
-  first_yes n h v = rw (sym e, lt-ltb i (length l) h, sym v)
+    pub first_yes : (n : ℕ) → Some n ≡ number_of (take i l) → Some (n, i + 1) ≡ first_of l
+    unfolding first_of
+    first_yes n v =
+        let p = position_some is_tab l i (sym found) in
+        rw (sym p.0, lt-ltb i (length l) p.1, sym v)
+
+    pub first_within : i < length l
+    first_within = (position_some is_tab l i (sym found)).1
 
 -- ---- a pair of numbers
 
-pair_headless : {fs : List (List ℕ)} → Headless fs → NoPair ≡ pair_of fs
+pair_headless : {fs : List (List ℕ)} → Headless fs → None ≡ pair_of fs
 pair_headless (single f) = refl
 pair_headless (wrong f g [] n) = rw n
 pair_headless (wrong f g (a ∷ fs) n) = refl
 
-pair_unlike : {fs : List (List ℕ)} (a : List ℕ) → NotLast fs → NoPair ≡ pair_of (a ∷ fs)
+pair_unlike : {fs : List (List ℕ)} (a : List ℕ) → NotLast fs → None ≡ pair_of (a ∷ fs)
 pair_unlike a (lone f n) = rw (n, and-false (is_number a))
 pair_unlike a (several f g fs) = refl
 
-pub pair_none : (l : List ℕ) → NoFirst ≡ first_of l → NoPair ≡ pair_of (fields l)
+pub pair_none : (l : List ℕ) → None ≡ first_of l → None ≡ pair_of (fields l)
 pair_none l h = pair_headless (head_no l h)
 
-pub pair_one : (l : List ℕ) (n i : ℕ) → Then n i ≡ first_of l → NotNumber ≡ number_of (behind l i) → NoPair ≡ pair_of (fields l)
+pub pair_one : (l : List ℕ) (n i : ℕ) → Some (n, i) ≡ first_of l → None ≡ number_of (behind l i) → None ≡ pair_of (fields l)
 pair_one l n i h k =
     let a = head_yes l n i h in
     rw a.is (pair_unlike a.field (last_no (drop i l) (k ∙ ap number_of (part_to_end l i))))
 
-pub pair_both : (l : List ℕ) (n i m : ℕ) → Then n i ≡ first_of l → Value m ≡ number_of (behind l i) → Two n m ≡ pair_of (fields l)
+pub pair_both : (l : List ℕ) (n i m : ℕ) → Some (n, i) ≡ first_of l → Some m ≡ number_of (behind l i) → Some (n, m) ≡ pair_of (fields l)
 pair_both l n i m h k =
     let a = head_yes l n i h in
     let b = last_yes (drop i l) m (k ∙ ap number_of (part_to_end l i)) in
@@ -233,9 +219,9 @@ pair_both l n i m h k =
 -- ---- the record of letter `O`
 
 -- what two numbers and a pair after them say
-abbrev pub open_line : ℕ → ℕ → Pair → Line
-open_line n m (Two a b) = calls (open_connection n m a b)
-open_line n m NoPair = no_record
+abbrev pub open_line : ℕ → ℕ → Option (ℕ × ℕ) → Line
+open_line n m (Some (a, b)) = calls (open_connection n m a b)
+open_line n m None = no_record
 
 opening_headless : {fs : List (List ℕ)} → Headless fs → no_record ≡ read_fields ((79 ∷ []) ∷ fs)
 unfolding same_list
@@ -260,16 +246,16 @@ opening_pair a b (c ∷ []) n m y z v w = refl
 opening_pair a b (c ∷ d ∷ []) n m y z v w = rw (y, z, v, w) (cases (is_number c && is_number d) (λ e. rw e) (λ e. rw e))
 opening_pair a b (c ∷ d ∷ e ∷ fs) n m y z v w = refl
 
-pub opening_none : (l : List ℕ) → NoFirst ≡ first_of l → no_record ≡ read_fields ((79 ∷ []) ∷ fields l)
+pub opening_none : (l : List ℕ) → None ≡ first_of l → no_record ≡ read_fields ((79 ∷ []) ∷ fields l)
 opening_none l h = opening_headless (head_no l h)
 
-pub opening_one : (l : List ℕ) (n i : ℕ) → Then n i ≡ first_of l → NoFirst ≡ first_of (behind l i)
+pub opening_one : (l : List ℕ) (n i : ℕ) → Some (n, i) ≡ first_of l → None ≡ first_of (behind l i)
     → no_record ≡ read_fields ((79 ∷ []) ∷ fields l)
 opening_one l n i h k =
     let a = head_yes l n i h in
     rw a.is (opening_second a.field (head_no (drop i l) (k ∙ ap first_of (part_to_end l i))))
 
-pub opening_two : (l : List ℕ) (n i m j : ℕ) (p : Pair) → Then n i ≡ first_of l → Then m j ≡ first_of (behind l i)
+pub opening_two : (l : List ℕ) (n i m j : ℕ) (p : Option (ℕ × ℕ)) → Some (n, i) ≡ first_of l → Some (m, j) ≡ first_of (behind l i)
     → p ≡ pair_of (fields (behind (behind l i) j)) → open_line n m p ≡ read_fields ((79 ∷ []) ∷ fields l)
 opening_two l n i m j p h k e =
     let a = head_yes l n i h in

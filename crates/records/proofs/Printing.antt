@@ -6,28 +6,9 @@ use Prim.Native.Nat.{ℕ, zero, suc, ◌+◌, ◌*◌, ◌/◌, ◌%◌, ◌≤�
 use native.Mathlib.Numerals.{add-one}
 use native.Mathlib.Omega.{arith}
 use lib.ListN.{length, take, get_or, length-append}
-use lib.Seq.{take-length}
-use borrow.Author.Tests.{le-leb, lt-leb}
 use Rattle.octets.specs.Octets.{Put}
 use Rattle.octets.proofs.Writing.{put_then, put_none, put_long}
 use Rattle.records.specs.Lines.{hex_digit, hex_of, hex_line, digits, done_line}
-
--- ---- digits
-
-pub hex_low : (n : ℕ) → n ≤ 9 → n + 48 ≡ hex_digit n
-hex_low n h = rw (le-leb n 9 h)
-
-pub hex_high : (n : ℕ) → 9 < n → n + 87 ≡ hex_digit n
-hex_high n h = rw (lt-leb n 9 h)
-
--- the digits of a number, written
-pub one_digit : {xs : List ℕ} {at : ℕ} {r : ℕ} {after : List ℕ} (n : ℕ) → n ≤ 9 → Put xs at ((n + 48) ∷ []) r after
-    → Put xs at (digits n) r after × (r ≤ at + 2)
-one_digit n h w = (rw (le-leb n 9 h) w, omega (arith, w.next))
-
-pub two_digits : {xs : List ℕ} {at : ℕ} {r : ℕ} {after : List ℕ} (n : ℕ) → 9 < n → Put xs at ((n / 10 + 48) ∷ (n % 10 + 48) ∷ []) r after
-    → Put xs at (digits n) r after × (r ≤ at + 2)
-two_digits n h w = (rw (lt-leb n 9 h) w, omega (arith, w.next))
 
 -- ---- octets in hex
 
@@ -61,11 +42,6 @@ hex_turn {octets} {out₀} {at} {out} {p} {j} v more w = record {
   long = put_long w ∙ v.long;
   written = rw (add-one, hex_more octets j more) (put_then v.written w);
 }
-
-pub hex_end : {octets out₀ : List ℕ} {at : ℕ} {out : List ℕ} {p j : ℕ} → Hex octets out₀ at out p j → length octets ≤ j → Put out₀ at (hex_of octets) p out
-hex_end {octets} {out₀} {at} {out} {p} {j} v h =
-    let e : j ≡ length octets = omega arith in
-    rw (e, take-length) at v.written
 
 -- two digits for each octet
 length_hex : (l : List ℕ) → length (hex_of l) ≡ 2 * length l

@@ -2,7 +2,7 @@
 -- come to an index, its first and next turn, and its ways out. For `run_lines`.
 use mathlib.Core.Path.{◌≡◌, refl, sym, ap, subst, ◌∙◌}
 use mathlib.Core.List.{List, [], ◌∷◌, ◌++◌, append_assoc, append-nil}
-use mathlib.Core.Bool.{Bool, true, false, cond, true≢false}
+use mathlib.Core.Bool.{cond, true≢false}
 use Prim.Native.Nat.{ℕ, suc, ◌+◌, ◌-◌, ◌≤◌, ◌<◌}
 use native.Mathlib.Omega.{arith}
 use lib.Dec.{leb}
@@ -10,6 +10,8 @@ use lib.ListN.{length, take, drop, replicate, length-drop, drop_of_length-le}
 use lib.Seq.{take_all, drop-drop}
 use borrow.Author.Tests.{le-leb, lt-leb}
 use borrow.Table.Steps.{cases}
+use Rattle.std.specs.Prelude.{Option, Some, None, position}
+use Rattle.std.specs.Option.{unwrap_or}
 use Rattle.octets.specs.Octets.{Put}
 use Rattle.octets.proofs.Writing.{put_then, put_none, put_long}
 use Rattle.lists.specs.Lists.{first_at}
@@ -19,6 +21,8 @@ use Rattle.state.specs.declared.Controller.{Controller}
 use Rattle.calls.specs.Calls.{Call, Held, held, model_of}
 use Rattle.calls.specs.Gives.{Starts}
 use Rattle.records.specs.Lines.{Line, calls, no_record, record_of}
+use Rattle.lists.proofs.Search.{position_or}
+use Rattle.records.specs.declared.bench.Printed.{Printed}
 use Rattle.records.specs.Bench.{bench, printed, is_newline, lines_of, at_line, answers, header, run_octets, Running, is_record, Steps}
 
 -- ---- the lines of some octets
@@ -30,6 +34,10 @@ lines_first [] h = absurd (omega arith)
 lines_first (x ∷ []) h = cases (is_newline x) (λ e. rw e) (λ e. rw e)
 lines_first (x ∷ y ∷ l) h =
     cases (is_newline x) (λ e. rw e) (λ e. rw (e, lines_first (y ∷ l) (omega arith)))
+
+-- how the code finds the end of a line
+pub found_first : (l : List ℕ) {o : Option ℕ} {n : ℕ} → o ≡ position is_newline l → n ≡ unwrap_or o (length l) → n ≡ first_at is_newline l
+found_first l e u = u ∙ rw e (position_or is_newline l)
 
 -- ---- what is printed for them
 
@@ -75,10 +83,6 @@ record_or_none (calls c) some none = some c refl
 record_or_none no_record some none = none refl
 
 module _ {all out₀ : List ℕ} {at : ℕ} {input out : List ℕ} {t : Held} {packet : List ℕ} {p i : ℕ} (l : Answering all out₀ at input out t packet p i) where
-  -- p is within the buffer
-  pub answering_within : p ≤ length out₀
-  answering_within = omega (arith, l.written.next, l.written.room)
-
   -- nothing more is printed
   ends : answers (length out₀ - p) (model_of bench t) (lines_of (drop i input)) ≡ [] → Put out₀ at all p out
   ends e =
@@ -112,32 +116,29 @@ module _ {all out₀ : List ℕ} {at : ℕ} {input out : List ℕ} {t : Held} {p
         (ap (λ (k : List ℕ). take n (drop i input) ∷ lines_of k) (drop-drop (suc n) i input))
 
     -- it is no record
-    module _ {u : Held} {more : Bool} {r : ℕ} {after : List ℕ} (s : Steps (take (i + n - i) (drop i input)) t u out p more r after) (no : more ≡ false) where
+    module _ {pool after : List ℕ} (s : Steps (take (i + n - i) (drop i input)) t pool out p None after) where
       none_here : record_of (take (i + n - i) (drop i input)) ≡ no_record
       none_here =
           record_or_none (record_of (take (i + n - i) (drop i input)))
-          (λ c e. absurd (true≢false (sym (sym no ∙ s.asked ∙ ap is_record e)))) (λ e. e)
+          (λ c e. absurd (true≢false (sym (s.asked ∙ ap is_record e)))) (λ e. e)
 
       pub answering_none : Put out₀ at all p after
       answering_none =
           subst (λ (k : List ℕ). Put out₀ at all p k) (sym (s.ended none_here).1)
           (ends (ap (answers (length out₀ - p) (model_of bench t)) splits ∙ answers_none _ _ _ _ none_here))
 
-      pub none_long : length after ≡ length out₀
-      none_long = ap length (s.ended none_here).1 ∙ l.long
-
     -- it is one, and its answer is printed
-    pub answering_turn : {u : Held} {more : Bool} {r : ℕ} {after packet' : List ℕ} → Steps (take (i + n - i) (drop i input)) t u out p more r after
-        → more ≡ true → 512 ≤ length out - p → length u.pool ≡ 64 → length packet' ≡ 1024 → Answering all out₀ at input after u packet' r (i + (n + 1))
-    answering_turn {u} {more} {r} {after} {packet'} s is room k w =
+    pub answering_turn : {pool : List ℕ} {r : Printed} {after packet' : List ℕ} → Steps (take (i + n - i) (drop i input)) t pool out p (Some r) after
+        → 512 ≤ length out - p → length pool ≡ 64 → length packet' ≡ 1024 → Answering all out₀ at input after (held r.state pool) packet' r.next (i + (n + 1))
+    answering_turn {pool} {r} {after} {packet'} s room k w =
         record_or_none (record_of (take (i + n - i) (drop i input))) some
-        (λ e. absurd (true≢false (sym is ∙ s.asked ∙ ap is_record e))) where
-          some : (c : Call) → record_of (take (i + n - i) (drop i input)) ≡ calls c → Answering all out₀ at input after u packet' r (i + (n + 1))
+        (λ e. absurd (true≢false (s.asked ∙ ap is_record e))) where
+          some : (c : Call) → record_of (take (i + n - i) (drop i input)) ≡ calls c → Answering all out₀ at input after (held r.state pool) packet' r.next (i + (n + 1))
           some c e =
               let m = model_of bench t in
               let q = s.printed c e in
               let octets = (printed c m).octets in
-              let left : length out₀ - p - length octets ≡ length out₀ - r = omega (arith, q.written.next) in
+              let left : length out₀ - p - length octets ≡ length out₀ - r.next = omega (arith, q.written.next) in
               record {
                 running = q.running;
                 pool = k;
@@ -150,7 +151,7 @@ module _ {all out₀ : List ℕ} {at : ℕ} {input out : List ℕ} {t : Held} {p
                     ∙ ap (λ (k : List ℕ). l.text ++ k)
                     (ap (answers (length out₀ - p) m) splits ∙ answers_some _ m _ _ c e (omega (arith, l.long, room))
                     ∙ ap (λ (k : ℕ). octets ++ answers k (printed c m).state (lines_of (drop (i + (n + 1)) input))) left
-                    ∙ ap (λ (k : Model). octets ++ answers (length out₀ - r) k (lines_of (drop (i + (n + 1)) input))) (sym q.viewed))
+                    ∙ ap (λ (k : Model). octets ++ answers (length out₀ - r.next) k (lines_of (drop (i + (n + 1)) input))) (sym q.viewed))
                     ∙ sym (append_assoc l.text octets _);
               }
 

@@ -1,6 +1,7 @@
 -- The bench: the rows beside document 01's profile, and what is printed for each line of input. For readers of the program `bench`
 -- and of the C calls.
-use Rattle.std.specs.Prelude.{◌≡◌, ℕ, ◌-◌, ◌≤◌, Bool, true, false, cond, leb, eqb, length}
+use Rattle.std.specs.Prelude.{◌≡◌, ℕ, ◌-◌, ◌≤◌, Bool, true, false, cond, leb, eqb, length, Option, IfSome}
+use Rattle.std.specs.Option.{is_some}
 use mathlib.Core.List.{List, [], ◌∷◌, ◌++◌, map, flatten}
 use Rattle.octets.specs.Octets.{Put}
 use Rattle.h4.specs.Framing.{packets}
@@ -12,6 +13,7 @@ use Rattle.commands.specs.Table as table
 use Rattle.calls.specs.Packets.{Profile, Reply, reply}
 use Rattle.calls.specs.Calls.{Call, on_packet, take_transmit, open_connection, completed, drop_in_flight, accept_connection, peer_update, request_ltk, complete_disconnect, remote_disconnect, advertising_timeout, Held, held, model_of, first_no, questions_of, reply_to}
 use Rattle.bench_profile.specs.Bench.{bench_controller}
+use Rattle.records.specs.declared.bench.Printed.{Printed}
 use Rattle.records.specs.Lines.{Line, calls, no_record, before, record_of, hex_line, done_line}
 
 -- ---- the profile: `bench_controller` in `bench_profile/specs/Bench.antt`, with its rows
@@ -114,10 +116,10 @@ is_record (calls c) = true
 is_record no_record = false
 
 -- one line: a record's call is made and printed; a line that is none changes nothing
-pub record Steps (line : List ℕ) (s t : Held) (out : List ℕ) (at : ℕ) (more : Bool) (r : ℕ) (after : List ℕ) : Type 0 where
-  pub asked : more ≡ is_record (record_of line)
-  pub printed : (c : Call) → record_of line ≡ calls c → Prints c s t out at r after
-  pub ended : record_of line ≡ no_record → (t ≡ s) × (after ≡ out) × (r ≡ at)
+pub record Steps (line : List ℕ) (s : Held) (pool out : List ℕ) (at : ℕ) (answer : Option Printed) (after : List ℕ) : Type 0 where
+  pub asked : is_some answer ≡ is_record (record_of line)
+  pub printed : (c : Call) → record_of line ≡ calls c → IfSome answer (λ r. Prints c s (held r.state pool) out at r.next after)
+  pub ended : record_of line ≡ no_record → (pool ≡ s.pool) × (after ≡ out)
 
 -- all lines, from the default state; a buffer of less than 4 octets stays as it is
 abbrev pub run_octets : ℕ → List ℕ → List ℕ

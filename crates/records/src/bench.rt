@@ -1,16 +1,15 @@
 // The bench: document 01's profile and rows, and what is printed for a record, for a line and for all lines.
 ghost use Rattle.std.specs.Prelude.{◌≡◌, ℕ, ◌+◌, ◌-◌, ◌≤◌, List, length, replicate};
 ghost use Rattle.octets.specs.Octets.{Put};
-ghost use Rattle.lists.specs.Lists.{first_at};
 ghost use Rattle.links.specs.Links.{view, in_use};
 ghost use Rattle.links.specs.Holding.{LinksHold};
 ghost use Rattle.state.specs.Holding.{StateHolds};
 ghost use Rattle.calls.specs.Calls as call;
 ghost use Rattle.calls.specs.Calls.{held, model_of};
 ghost use Rattle.bench_profile.specs.Bench.{bench_controller};
-ghost use Rattle.records.specs.Bench.{bench, answer_lines, is_newline, lines_of, answers, Running, Prints, PrintsAnyPool, Steps, run_octets};
-ghost use Rattle.records.specs.Lines.{calls, done_line};
-ghost use Rattle.records.specs.Reading.{line_of};
+ghost use Rattle.records.specs.Bench.{bench, answer_lines, lines_of, answers, Running, Prints, PrintsAnyPool, Steps, run_octets};
+ghost use Rattle.records.specs.Lines.{done_line};
+ghost use Rattle.records.specs.Reading.{call_of};
 
 use crate::{Opening, Record, print, read, rows};
 use links::Links;
@@ -19,15 +18,7 @@ use state::Controller;
 
 // What is printed for a call: the state after it, and the index after what was written.
 #[derive(Clone, Copy)]
-struct Printed {
-    state: Controller,
-    next: usize,
-}
-
-// One line of the input: whether it is a record, the state after it, and the index after what was written.
-#[derive(Clone, Copy)]
-pub struct Stepped {
-    pub more: bool,
+pub struct Printed {
     pub state: Controller,
     pub next: usize,
 }
@@ -104,11 +95,12 @@ fn make_packet(s: Controller, pool: &mut [u8], packet: &[u8], out: &mut [u8], at
         packet,
         &mut events,
     );
-    let number = r.number;
-    let written = r.written;
-    let t = r.state;
-    let next = print_answer(b'E', &events[..written], number, t.links, out, at);
-    Printed { state: t, next }
+    let octets = &events[..r.written];
+    let next = print_answer(b'E', octets, r.number, r.state.links, out, at);
+    Printed {
+        state: r.state,
+        next,
+    }
 }
 
 // A take.
@@ -125,13 +117,13 @@ fn make_take(
 {
     let profile = bench_profile();
     let mut taken = [0u8; 64];
-    let max = most as usize;
-    let r = controller::take_transmit(profile, s, pool, handle, max, &mut taken);
-    let number = r.number;
-    let written = r.written;
-    let t = r.state;
-    let next = print_answer(b'X', &taken[..written], number, t.links, out, at);
-    Printed { state: t, next }
+    let r = controller::take_transmit(profile, s, pool, handle, most as usize, &mut taken);
+    let octets = &taken[..r.written];
+    let next = print_answer(b'X', octets, r.number, r.state.links, out, at);
+    Printed {
+        state: r.state,
+        next,
+    }
 }
 
 // A report of completed packets.
@@ -142,11 +134,12 @@ fn make_completed(s: Controller, handle: u16, count: u16, out: &mut [u8], at: us
     let profile = bench_profile();
     let mut events = [0u8; 71];
     let r = controller::completed(profile, s, handle, count, &mut events);
-    let number = r.number;
-    let written = r.written;
-    let t = r.state;
-    let next = print_answer(b'E', &events[..written], number, t.links, out, at);
-    Printed { state: t, next }
+    let octets = &events[..r.written];
+    let next = print_answer(b'E', octets, r.number, r.state.links, out, at);
+    Printed {
+        state: r.state,
+        next,
+    }
 }
 
 // A link that opens.
@@ -156,10 +149,11 @@ fn make_open(s: Controller, o: Opening, out: &mut [u8], at: usize) -> Printed
 {
     let profile = bench_profile();
     let r = controller::open_connection(profile, s, o.handle, o.interval, o.latency, o.timeout);
-    let number = r.number;
-    let t = r.state;
-    let next = print_done(number, t.links, out, at);
-    Printed { state: t, next }
+    let next = print_done(r.number, r.state.links, out, at);
+    Printed {
+        state: r.state,
+        next,
+    }
 }
 
 // The record's call is made, and its answer printed into out from index at. packet holds the octets of a packet.
@@ -172,21 +166,20 @@ fn make(
     at: usize,
 ) -> Printed
     requires { Running (held s pool.old) × (at + 512 ≤ length out.old) }
-    ensures { (c : call.Call) → line_of «record» packet.now ≡ calls c → Prints c (held s pool.old) (held result.state pool.new) out.old at result.next out.new }
+    ensures { Prints (call_of «record» packet.now) (held s pool.old) (held result.state pool.new) out.old at result.next out.new }
 {
     match record {
         Record::Packet(n) => {
-            let len = octets::lesser(n, packet.len());
+            let len = n.min(packet.len());
             make_packet(s, pool, &packet[..len], out, at)
         }
         Record::Take(handle, most) => make_take(s, pool, handle, most, out, at),
         Record::Completed(handle, count) => make_completed(s, handle, count, out, at),
         Record::Open(o) => make_open(s, o, out, at),
-        Record::NoRecord => Printed { state: s, next: at },
     }
 }
 
-// One line, without its newline. packet is a buffer for the octets of a packet.
+// One line, without its newline: what is printed for it, if it is a record. packet is a buffer for the octets of a packet.
 pub fn step(
     s: Controller,
     pool: &mut [u8],
@@ -194,48 +187,15 @@ pub fn step(
     packet: &mut [u8],
     out: &mut [u8],
     at: usize,
-) -> Stepped
+) -> Option<Printed>
     requires { Running (held s pool.old) × ((1024 ≤ length packet.old) × (at + 512 ≤ length out.old)) }
-    ensures { Steps line.now (held s pool.old) (held result.state pool.new) out.old at result.more result.next out.new }
+    ensures { Steps line.now (held s pool.old) pool.new out.old at result out.new }
 {
     if 2050 < line.len() {
-        return Stepped {
-            more: false,
-            state: s,
-            next: at,
-        };
+        return None;
     }
-    let record = read::read_line(line, packet);
-    match record {
-        Record::NoRecord => Stepped {
-            more: false,
-            state: s,
-            next: at,
-        },
-        _ => {
-            let r = make(s, pool, record, packet, out, at);
-            let t = r.state;
-            Stepped {
-                more: true,
-                state: t,
-                next: r.next,
-            }
-        }
-    }
-}
-
-// The index of the first newline, or the length.
-fn line_len(rest: &[u8]) -> usize
-    ensures { result ≡ first_at is_newline rest.now }
-{
-    let mut i = 0;
-    while i < rest.len() {
-        if rest[i] == b'\n' {
-            return i;
-        }
-        i += 1;
-    }
-    i
+    let record = read::read_line(line, packet)?;
+    Some(make(s, pool, record, packet, out, at))
 }
 
 // All lines of the input, from a state on, printed into out from index at; the index after them.
@@ -248,15 +208,16 @@ fn run_lines(s: Controller, input: &[u8], out: &mut [u8], at: usize) -> usize
     let mut packet = [0u8; 1024];
     let mut p = at;
     let mut i = 0;
+    // A step is a line's length, so it is no `for`.
     while i < input.len() {
         if out.len() - p < 512 {
             return p;
         }
-        let n = line_len(&input[i..]);
-        let r = step(t, &mut pool, &input[i..i + n], &mut packet, out, p);
-        if !r.more {
+        let rest = &input[i..];
+        let n = read::place_of(rest, b'\n').unwrap_or(rest.len());
+        let Some(r) = step(t, &mut pool, &input[i..i + n], &mut packet, out, p) else {
             return p;
-        }
+        };
         t = r.state;
         p = r.next;
         i += n + 1;
@@ -272,6 +233,6 @@ pub fn run(input: &[u8], out: &mut [u8]) -> usize
         return 0;
     }
     let s = controller::default_state();
-    let at = octets::put(out, 0, &[b'H', b'\t', b'1', b'\n']);
+    let at = octets::put(out, 0, b"H\t1\n");
     run_lines(s, input, out, at)
 }

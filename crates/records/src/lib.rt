@@ -7,7 +7,7 @@ mod print;
 mod read;
 mod rows;
 
-pub use bench::{bench_profile, run, step};
+pub use bench::{Printed, bench_profile, run, step};
 
 // The four numbers of a record that opens a link.
 #[derive(Clone, Copy)]
@@ -18,13 +18,12 @@ pub struct Opening {
     pub timeout: u16,
 }
 
-// What a line says: a packet, whose octets stand at the front of a buffer, a take, a completed report, a link that opens, or no
-// record.
+// What a line that is a record says: a packet, whose octets stand at the front of a buffer, a take, a completed report, or a link
+// that opens.
 #[derive(Clone, Copy)]
 pub enum Record {
     Packet(usize),
     Take(u16, u16),
     Completed(u16, u16),
     Open(Opening),
-    NoRecord,
 }

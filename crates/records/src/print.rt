@@ -1,25 +1,17 @@
-// Printing the answer of a call.
+// Printing the answer of a call. Each function takes the buffer and an index, and gives the index behind what it wrote: a struct of
+// the two would hold a `&mut`, and say the same `Put` of its fields.
 ghost use Rattle.std.specs.Prelude.{◌≡◌, ◌+◌, ◌*◌, ◌≤◌, length};
 ghost use mathlib.Core.List.{map, flatten};
 ghost use Rattle.octets.specs.Octets.{Put};
 ghost use Rattle.h4.specs.Framing.{packets, whole};
 ghost use Rattle.records.specs.Lines.{hex_digit, hex_of, hex_line, digits, done_line};
 
-use h4::PacketLen;
-
-const TAB: u8 = 9;
-
-const NEWLINE: u8 = 10;
-
-// `D`, which begins the line that ends an answer.
-const DONE: u8 = 68;
-
 // The lower-case digit of a number below 16.
 fn hex_digit(n: u8) -> u8
     requires { n ≤ 15 }
     ensures { result ≡ hex_digit n }
 {
-    if n <= 9 { n + 48 } else { n + 87 }
+    if n <= 9 { b'0' + n } else { b'a' + n - 10 }
 }
 
 // Octets in hex, two digits each, into out from index at; the index after them.
@@ -28,13 +20,8 @@ fn put_hex(octets: &[u8], out: &mut [u8], at: usize) -> usize
     ensures { Put out.old at (hex_of octets.now) result out.new }
 {
     let mut p = at;
-    let mut j = 0;
-    while j < octets.len() {
-        let x = octets[j];
-        let high = hex_digit(x / 16);
-        let low = hex_digit(x % 16);
-        p = octets::put(out, p, &[high, low]);
-        j += 1;
+    for x in octets {
+        p = octets::put(out, p, &[hex_digit(*x / 16), hex_digit(*x % 16)]);
     }
     p
 }
@@ -44,23 +31,20 @@ fn hex_line(letter: u8, octets: &[u8], out: &mut [u8], at: usize) -> usize
     requires { at + 2 * length octets.now + 3 ≤ length out.old }
     ensures { Put out.old at (hex_line letter octets.now) result out.new }
 {
-    let at = octets::put(out, at, &[letter, TAB]);
+    let at = octets::put(out, at, &[letter, b'\t']);
     let at = put_hex(octets, out, at);
-    octets::put(out, at, &[NEWLINE])
+    octets::put(out, at, &[b'\n'])
 }
 
 // The length of the packet at the front where all of it is there, else 0.
 fn whole_len(octets: &[u8]) -> usize
     ensures { result ≡ whole octets.now }
 {
+    // The last two arms are not one, since the proof has no name for what a joined pattern has found.
     match h4::h4_packet_len(octets) {
-        PacketLen::Packet(n) => {
-            if octets.len() < n {
-                return 0;
-            }
-            n
-        }
-        _ => 0,
+        Ok(Some(n)) => { if n <= octets.len() { n } else { 0 } }
+        Ok(None) => 0,
+        Err(_) => 0,
     }
 }
 
@@ -71,6 +55,7 @@ pub fn packet_lines(letter: u8, octets: &[u8], out: &mut [u8], at: usize) -> usi
 {
     let mut p = at;
     let mut i = 0;
+    // A step is a packet's length, so it is no `for`.
     while i < octets.len() {
         let n = whole_len(&octets[i..]);
         if n == 0 {
@@ -88,9 +73,9 @@ fn put_digits(n: u8, out: &mut [u8], at: usize) -> usize
     ensures { Put out.old at (digits n) result out.new × (result ≤ at + 2) }
 {
     if n <= 9 {
-        return octets::put(out, at, &[n + 48]);
+        return octets::put(out, at, &[b'0' + n]);
     }
-    octets::put(out, at, &[n / 10 + 48, n % 10 + 48])
+    octets::put(out, at, &[b'0' + n / 10, b'0' + n % 10])
 }
 
 // The line that ends an answer, into out from index at; the index after it.
@@ -98,10 +83,9 @@ pub fn done_line(number: u8, used: usize, out: &mut [u8], at: usize) -> usize
     requires { (number ≤ 99) × (used ≤ 99) × (at + 8 ≤ length out.old) }
     ensures { Put out.old at (done_line number used) result out.new }
 {
-    let at = octets::put(out, at, &[DONE, TAB]);
+    let at = octets::put(out, at, &[b'D', b'\t']);
     let at = put_digits(number, out, at);
-    let at = octets::put(out, at, &[TAB]);
-    let count = used as u8;
-    let at = put_digits(count, out, at);
-    octets::put(out, at, &[NEWLINE])
+    let at = octets::put(out, at, &[b'\t']);
+    let at = put_digits(used as u8, out, at);
+    octets::put(out, at, &[b'\n'])
 }

@@ -1,25 +1,14 @@
-// Octets printed in hex, two digits each. For main.rt and run_calls.rt.
-use std::io;
+// Octets in hex, two digits each. For main.rt.
+use std::fmt;
 
-pub fn print_octet(rt: &impl Print, octet: u8) -> io::Result<()> {
-    print!(rt; "{octet:02x}")
-}
+#[derive(Drop)]
+pub struct Hex<'a>(pub &'a [u8]);
 
-// The low octet first.
-pub fn print_word(rt: &impl Print, word: u16) -> io::Result<()> {
-    print_octet(rt, (word % 256) as u8)?;
-    print_octet(rt, (word / 256) as u8)
-}
-
-pub fn print_all(rt: &impl Print, octets: &[u8]) -> io::Result<()> {
-    let mut i = 0;
-    while i < octets.len() {
-        print_octet(rt, octets[i])?;
-        i += 1;
+impl fmt::Display for Hex<'_> {
+    fn fmt<W: fmt::Write>(&self, f: &mut fmt::Formatter<W>) -> fmt::Result {
+        for octet in self.0 {
+            write!(f, "{octet:02x}")?;
+        }
+        Ok(())
     }
-    Ok(())
-}
-
-pub fn print_newline(rt: &impl Print) -> io::Result<()> {
-    rt.write_all(b"\n")
 }

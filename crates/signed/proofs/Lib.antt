@@ -1,3 +1,2 @@
--- The laws of signed numbers, and worked examples.
-pub mod Signs
+-- Worked examples.
 pub mod Examples

@@ -12,9 +12,8 @@ pub fn remember(recent: Recent, op: u16, status: u8) -> Recent
     ensures { answers_of result ≡ remembered (le 2 op ++ (status ∷ [])) (answers_of recent) }
 {
     let n = recent.count;
-    let low = (op % 256) as u8;
-    let high = (op / 256 % 256) as u8;
-    let kept = octets::lesser(n, 31);
+    let [low, high] = op.to_le_bytes();
+    let kept = n.min(31);
     let from = 3 * (n - kept);
     let before = recent.octets;
     let mut octets = before;
@@ -30,28 +29,28 @@ impl Counters {
     pub fn count_command(mut self) -> Counters
         ensures { result ≡ count_command self }
     {
-        self.commands = std::num::wrapping_add_u64(self.commands, 1);
+        self.commands = self.commands.wrapping_add(1);
         self
     }
 
     pub fn count_unknown(mut self) -> Counters
         ensures { result ≡ count_unknown self }
     {
-        self.unknown_commands = std::num::wrapping_add_u64(self.unknown_commands, 1);
+        self.unknown_commands = self.unknown_commands.wrapping_add(1);
         self
     }
 
     pub fn count_packet(mut self) -> Counters
         ensures { result ≡ count_packet self }
     {
-        self.acl_packets = std::num::wrapping_add_u64(self.acl_packets, 1);
+        self.acl_packets = self.acl_packets.wrapping_add(1);
         self
     }
 
     pub fn count_dropped(mut self) -> Counters
         ensures { result ≡ count_dropped self }
     {
-        self.acl_dropped = std::num::wrapping_add_u64(self.acl_dropped, 1);
+        self.acl_dropped = self.acl_dropped.wrapping_add(1);
         self
     }
 }

@@ -34,6 +34,7 @@ impl Advertising {
     }
 
     // The same with other advertising data (section 7.8.7).
+    #[tactic(auto, using(octets::proofs::Writing::put_front))]
     pub fn with_data(mut self, load: &[u8]) -> Advertising
         requires { length load.now ≤ 31 }
         ensures { (advertising_of result ≡ with_data load.now (advertising_of self)) × (AdvertisingHolds self → AdvertisingHolds result) }
@@ -46,6 +47,7 @@ impl Advertising {
     }
 
     // The same with another scan response (section 7.8.8).
+    #[tactic(auto, using(octets::proofs::Writing::put_front))]
     pub fn with_scan_response(mut self, load: &[u8]) -> Advertising
         requires { length load.now ≤ 31 }
         ensures { (advertising_of result ≡ with_scan_response load.now (advertising_of self)) × (AdvertisingHolds self → AdvertisingHolds result) }

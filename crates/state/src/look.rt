@@ -9,57 +9,38 @@ use crate::{Advertising, Controller, Masks, Scanning};
 pub fn busy(s: Controller) -> bool
     ensures { (size : ℕ) (pool : List ℕ) → result ≡ is_busy (view s size pool) }
 {
-    if s.advertising.enabled != 0 {
-        return true;
-    }
     let enable = s.scanning.enable;
-    if enable[0] != 0 {
-        return true;
-    }
-    s.scanning.initiating != 0
+    s.advertising.enabled != 0 || enable[0] != 0 || s.scanning.initiating != 0
 }
 
 // Whether the accept list is in use, so that it may not change.
 pub fn accept_list_in_use(s: Controller) -> bool
     ensures { (size : ℕ) (pool : List ℕ) → result ≡ accept_list_in_use (view s size pool) }
 {
-    if advertiser_filters(s.advertising) {
-        return true;
-    }
-    if scanner_filters(s.scanning) {
-        return true;
-    }
-    initiator_filters(s.scanning)
+    advertiser_filters(s.advertising)
+        || scanner_filters(s.scanning)
+        || initiator_filters(s.scanning)
 }
 
 fn advertiser_filters(advertising: Advertising) -> bool
     ensures { result ≡ advertiser_filters (advertising_of advertising) }
 {
     let params = advertising.params;
-    if advertising.enabled != 0 {
-        return params[14] != 0;
-    }
-    false
+    advertising.enabled != 0 && params[14] != 0
 }
 
 fn scanner_filters(scanning: Scanning) -> bool
     ensures { result ≡ scanner_filters scanning }
 {
     let enable = scanning.enable;
-    if enable[0] == 0 {
-        return false;
-    }
     let params = scanning.params;
-    params[6] != 0
+    enable[0] != 0 && params[6] != 0
 }
 
 fn initiator_filters(scanning: Scanning) -> bool
     ensures { result ≡ initiator_filters scanning }
 {
-    if scanning.initiating != 0 {
-        return scanning.initiator_filter != 0;
-    }
-    false
+    scanning.initiating != 0 && scanning.initiator_filter != 0
 }
 
 // Whether the host has enabled an LE Meta subevent.
@@ -67,9 +48,5 @@ pub fn le_event_enabled(masks: Masks, subevent: u8) -> bool
     requires { (1 ≤ subevent) × (subevent ≤ 64) }
     ensures { result ≡ le_event_enabled masks subevent }
 {
-    if (masks.event >> 61) % 2 != 1 {
-        return false;
-    }
-    let bit = subevent - 1;
-    (masks.le_event >> bit) % 2 == 1
+    (masks.event >> 61) % 2 == 1 && (masks.le_event >> (subevent - 1)) % 2 == 1
 }

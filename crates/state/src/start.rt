@@ -92,6 +92,7 @@ fn default_advertising() -> Advertising
 
 impl Recent {
     // No answer yet.
+    #[tactic(auto, unfolding(lists::specs::Lists::chunks))]
     pub fn new() -> Recent
         ensures { (answers_of result ≡ []) × (result.count ≡ 0) }
     {

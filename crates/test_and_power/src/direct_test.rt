@@ -1,44 +1,32 @@
 // Direct Test Mode (Core Vol 4 Part E sections 7.8.28 to 7.8.30). No packet is counted: none reaches a receiver that is not
 // there.
-ghost use Rattle.std.specs.Prelude.{◌≡◌, List, ℕ, ◌≤◌, eqb, length};
-ghost use Rattle.links.specs.Links.{opened};
+ghost use Rattle.std.specs.Prelude.{◌≡◌, [], ◌≤◌, length};
 ghost use Rattle.state.specs.State.{view};
 ghost use Rattle.commands.specs.Outcome.{Gives, GivesAny, Ready};
 ghost use Rattle.commands.specs.Put.{put_settings};
 ghost use Rattle.commands.specs.Test.{idle as is_idle};
 ghost use Rattle.commands.specs.Test.{test_phy, start_test, test_end, receiver_test, transmitter_test, receiver_test2, transmitter_test2};
 
-use commands::SettingsAnswered;
-use links::Links;
+use commands::Answered;
+use hci::status::{COMMAND_DISALLOWED, INVALID_PARAMETERS, SUCCESS, UNSUPPORTED_FEATURE};
 use profile::ControllerRow;
-use state::Controller;
+use state::{Controller, Settings};
 
 // The last channel: a test is on one of 0 to 39.
 const LAST_CHANNEL: u8 = 0x27;
 
-// Whether a test may start: none runs, the link layer is not busy, and there is no link.
+// Whether a test may start: the link layer is not busy, no test runs, and there is no link. What the pool holds does not matter,
+// so the contract names an empty one.
+#[tactic(auto, unfolding(commands::specs::Test::idle))]
 fn idle(s: Controller) -> bool
     requires { s.links.count ≤ 16 }
-    ensures { (size : ℕ) (pool : List ℕ) → result ≡ is_idle (view s size pool) }
+    ensures { result ≡ is_idle (view s 0 []) }
 {
-    if s.settings.test != 0 {
-        return false;
-    }
-    if state::busy(s) {
-        return false;
-    }
-    no_link(s.links)
-}
-
-// Whether there is no link.
-fn no_link(links: Links) -> bool
-    requires { links.count ≤ 16 }
-    ensures { result ≡ eqb (length (opened links)) 0 }
-{
-    links.count == 0
+    !state::busy(s) && s.settings.test == 0 && s.links.count == 0
 }
 
 // Whether the controller has the PHY of a test: 1 LE 1M, 2 LE 2M, 3 LE Coded, and for sending 4 LE Coded S=2.
+#[tactic(auto, unfolding(commands::specs::Test::test_phy))]
 fn test_phy(profile: ControllerRow, transmit: bool, phy: u8) -> bool
     ensures { result ≡ test_phy profile transmit phy }
 {
@@ -53,6 +41,8 @@ fn test_phy(profile: ControllerRow, transmit: bool, phy: u8) -> bool
 }
 
 // Starts a test: what the four commands test, in the order of the source. `allowed` is the test of modulation or payload.
+// `transmit` is a bool as in the definition: an enum of two variants would only be turned back into it in each contract.
+#[tactic(auto, unfolding(commands::specs::Test::start_test, commands::specs::Test::idle))]
 fn start_test(
     s: Controller,
     profile: ControllerRow,
@@ -60,21 +50,21 @@ fn start_test(
     channel: u8,
     phy: u8,
     allowed: bool,
-) -> SettingsAnswered
+) -> Answered<Settings>
     requires { Ready s profile }
-    ensures { Gives (start_test profile transmit channel phy allowed) profile s (put_settings result.settings s) result.answer }
+    ensures { Gives (start_test profile transmit channel phy allowed) profile s (put_settings result.part s) result.answer }
 {
     if !idle(s) {
-        return commands::settings_answered(s.settings, 0x0C);
+        return Answered::done(s.settings, COMMAND_DISALLOWED);
     }
     if channel > LAST_CHANNEL {
-        return commands::settings_answered(s.settings, 0x12);
+        return Answered::done(s.settings, INVALID_PARAMETERS);
     }
     if !test_phy(profile, transmit, phy) {
-        return commands::settings_answered(s.settings, 0x11);
+        return Answered::done(s.settings, UNSUPPORTED_FEATURE);
     }
     if !allowed {
-        return commands::settings_answered(s.settings, 0x12);
+        return Answered::done(s.settings, INVALID_PARAMETERS);
     }
     let mut settings = s.settings;
     settings.test = if transmit {
@@ -82,55 +72,56 @@ fn start_test(
     } else {
         state::RECEIVER_TEST
     };
-    commands::settings_answered(settings, 0)
+    Answered::done(settings, SUCCESS)
 }
 
 // LE Receiver Test v1 (section 7.8.28): LE 1M.
-pub fn receiver_test(s: Controller, profile: ControllerRow, p: &[u8]) -> SettingsAnswered
+pub fn receiver_test(s: Controller, profile: ControllerRow, p: &[u8]) -> Answered<Settings>
     requires { (length p.now ≡ 1) × Ready s profile }
-    ensures { Gives (receiver_test profile p.now) profile s (put_settings result.settings s) result.answer }
+    ensures { Gives (receiver_test profile p.now) profile s (put_settings result.part s) result.answer }
 {
     start_test(s, profile, false, p[0], 1, true)
 }
 
 // LE Transmitter Test v1 (section 7.8.29): LE 1M, payload to 7.
-pub fn transmitter_test(s: Controller, profile: ControllerRow, p: &[u8]) -> SettingsAnswered
+pub fn transmitter_test(s: Controller, profile: ControllerRow, p: &[u8]) -> Answered<Settings>
     requires { (length p.now ≡ 3) × Ready s profile }
-    ensures { Gives (transmitter_test profile p.now) profile s (put_settings result.settings s) result.answer }
+    ensures { Gives (transmitter_test profile p.now) profile s (put_settings result.part s) result.answer }
 {
     start_test(s, profile, true, p[0], 1, p[2] <= 0x07)
 }
 
 // LE Receiver Test v2 (section 7.8.28): channel, PHY, modulation index to 1.
-pub fn receiver_test_v2(s: Controller, profile: ControllerRow, p: &[u8]) -> SettingsAnswered
+pub fn receiver_test_v2(s: Controller, profile: ControllerRow, p: &[u8]) -> Answered<Settings>
     requires { (length p.now ≡ 3) × Ready s profile }
-    ensures { Gives (receiver_test2 profile p.now) profile s (put_settings result.settings s) result.answer }
+    ensures { Gives (receiver_test2 profile p.now) profile s (put_settings result.part s) result.answer }
 {
     start_test(s, profile, false, p[0], p[1], p[2] <= 1)
 }
 
 // LE Transmitter Test v2 (section 7.8.29): channel, length, payload to 7, PHY.
-pub fn transmitter_test_v2(s: Controller, profile: ControllerRow, p: &[u8]) -> SettingsAnswered
+pub fn transmitter_test_v2(s: Controller, profile: ControllerRow, p: &[u8]) -> Answered<Settings>
     requires { (length p.now ≡ 4) × Ready s profile }
-    ensures { Gives (transmitter_test2 profile p.now) profile s (put_settings result.settings s) result.answer }
+    ensures { Gives (transmitter_test2 profile p.now) profile s (put_settings result.part s) result.answer }
 {
     start_test(s, profile, true, p[0], p[3], p[2] <= 0x07)
 }
 
 // LE Test End (section 7.8.30).
-pub fn test_end(s: Controller) -> SettingsAnswered
-    ensures { GivesAny test_end s (put_settings result.settings s) result.answer }
+#[tactic(auto, unfolding(commands::specs::Test::test_end))]
+pub fn test_end(s: Controller) -> Answered<Settings>
+    ensures { GivesAny test_end s (put_settings result.part s) result.answer }
 {
     let mut settings = s.settings;
     if settings.test == 0 {
-        return SettingsAnswered {
-            settings,
-            answer: answers::complete(&[0x0C, 0, 0]),
+        return Answered {
+            part: settings,
+            answer: answers::complete(&[COMMAND_DISALLOWED, 0, 0]),
         };
     }
     settings.test = 0;
-    SettingsAnswered {
-        settings,
-        answer: answers::complete(&[0, 0, 0]),
+    Answered {
+        part: settings,
+        answer: answers::complete(&[SUCCESS, 0, 0]),
     }
 }

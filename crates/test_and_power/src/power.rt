@@ -7,51 +7,50 @@ ghost use Rattle.commands.specs.Put.{put_settings};
 ghost use Rattle.commands.specs.Test.{read_power_range, read_path_compensation, write_path_compensation};
 
 use answers::Answer;
-use commands::SettingsAnswered;
+use commands::Answered;
+use hci::status::{INVALID_PARAMETERS, SUCCESS};
 use profile::ControllerRow;
 use state::{Controller, Settings};
 
 // LE Read Transmit Power (section 7.8.74): the least and the greatest, in dBm.
+#[tactic(auto, unfolding(commands::specs::Test::read_power_range))]
 pub fn read_power_range(profile: ControllerRow) -> Answer
     ensures { Answers (read_power_range profile) result }
 {
-    let least = profile.tx_power_min;
-    let greatest = profile.tx_power_max;
-    let low = signed::octet_of(least);
-    let high = signed::octet_of(greatest);
-    answers::complete(&[0, low, high])
+    let least = signed::octet_of(profile.tx_power_min);
+    let greatest = signed::octet_of(profile.tx_power_max);
+    answers::complete(&[SUCCESS, least, greatest])
 }
 
 // LE Read RF Path Compensation (section 7.8.75): for sending, then for receiving.
+#[tactic(auto, unfolding(commands::specs::Test::read_path_compensation))]
 pub fn read_path_compensation(settings: Settings) -> Answer
     ensures { Answers (read_path_compensation settings) result }
 {
-    let compensation = settings.rf_path_compensation;
-    let transmit = compensation[0];
-    let receive = compensation[1];
-    let transmit_low = (transmit % 256) as u8;
-    let transmit_high = (transmit / 256 % 256) as u8;
-    let receive_low = (receive % 256) as u8;
-    let receive_high = (receive / 256 % 256) as u8;
-    answers::complete(&[0, transmit_low, transmit_high, receive_low, receive_high])
+    let [transmit, receive] = settings.rf_path_compensation;
+    let [transmit_low, transmit_high] = transmit.to_le_bytes();
+    let [receive_low, receive_high] = receive.to_le_bytes();
+    answers::complete(&[
+        SUCCESS,
+        transmit_low,
+        transmit_high,
+        receive_low,
+        receive_high,
+    ])
 }
 
 // LE Write RF Path Compensation (section 7.8.76): -128.0 dB (0xFB00) to 128.0 dB (0x0500) in 0.1 dB.
-pub fn write_path_compensation(s: Controller, p: &[u8]) -> SettingsAnswered
+#[tactic(auto, unfolding(commands::specs::Test::write_path_compensation))]
+pub fn write_path_compensation(s: Controller, p: &[u8]) -> Answered<Settings>
     requires { length p.now ≡ 4 }
-    ensures { GivesAny (write_path_compensation p.now) s (put_settings result.settings s) result.answer }
+    ensures { GivesAny (write_path_compensation p.now) s (put_settings result.part s) result.answer }
 {
-    if !allowed_at(p, 0) {
-        return commands::settings_answered(s.settings, 0x12);
+    if !(allowed_at(p, 0) && allowed_at(p, 2)) {
+        return Answered::done(s.settings, INVALID_PARAMETERS);
     }
-    if !allowed_at(p, 2) {
-        return commands::settings_answered(s.settings, 0x12);
-    }
-    let transmit = octets::word_at(p, 0);
-    let receive = octets::word_at(p, 2);
     let mut settings = s.settings;
-    settings.rf_path_compensation = [transmit, receive];
-    commands::settings_answered(settings, 0)
+    settings.rf_path_compensation = [octets::word_at(p, 0), octets::word_at(p, 2)];
+    Answered::done(settings, SUCCESS)
 }
 
 // Whether the two octets at index at, as a signed number, are a path compensation.
@@ -59,6 +58,5 @@ fn allowed_at(p: &[u8], at: usize) -> bool
     requires { at + 2 ≤ length p.now }
     ensures { result ≡ compensation_allowed (word p.now at) }
 {
-    let x = signed::signed_word_at(p, at);
-    signed::compensation_allowed(x)
+    signed::compensation_allowed(signed::signed_word_at(p, at))
 }

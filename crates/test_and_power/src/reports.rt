@@ -4,32 +4,32 @@ ghost use Rattle.commands.specs.Outcome.{Answers};
 ghost use Rattle.commands.specs.Test.{read_supported_states, read_maximum_advertising_length, read_advertising_sets};
 
 use answers::Answer;
+use hci::status::SUCCESS;
 use profile::ControllerRow;
 
 // LE Read Supported States (section 7.8.27).
+#[tactic(auto, unfolding(commands::specs::Test::read_supported_states))]
 pub fn read_supported_states(profile: ControllerRow) -> Answer
     ensures { Answers (read_supported_states profile) result }
 {
-    let states = profile.supported_states;
-    answers::complete(&[
-        0, states[0], states[1], states[2], states[3], states[4], states[5], states[6], states[7],
-    ])
+    let mut returned = [SUCCESS; 9];
+    returned[1..].copy_from_slice(&profile.supported_states);
+    answers::complete(&returned)
 }
 
 // LE Read Maximum Advertising Data Length (section 7.8.57).
+#[tactic(auto, unfolding(commands::specs::Test::read_maximum_advertising_length))]
 pub fn read_maximum_advertising_length(profile: ControllerRow) -> Answer
     ensures { Answers (read_maximum_advertising_length profile) result }
 {
-    let most = profile.max_adv_data_len;
-    let low = (most % 256) as u8;
-    let high = (most / 256 % 256) as u8;
-    answers::complete(&[0, low, high])
+    let [low, high] = profile.max_adv_data_len.to_le_bytes();
+    answers::complete(&[SUCCESS, low, high])
 }
 
 // LE Read Number of Supported Advertising Sets (section 7.8.58).
+#[tactic(auto, unfolding(commands::specs::Test::read_advertising_sets))]
 pub fn read_advertising_sets(profile: ControllerRow) -> Answer
     ensures { Answers (read_advertising_sets profile) result }
 {
-    let sets = profile.adv_sets;
-    answers::complete(&[0, sets])
+    answers::complete(&[SUCCESS, profile.adv_sets])
 }

@@ -2,7 +2,8 @@
 -- what is written into the buffer, or that nothing changes where it has no room.
 use Prim.Native.Nat.{ℕ, ◌+◌, ◌≤◌, ◌<◌}
 use native.Mathlib.Omega.{arith}
-use mathlib.Core.Bool.{true, false, true≢false}
+use mathlib.Core.Bool.{true}
+use Rattle.std.specs.Prelude.{Some, None}
 use mathlib.Core.Path.{◌≡◌, refl, sym, ap, ◌∙◌}
 use mathlib.Core.List.{List, map, map-map, flatten}
 use lib.ListN.{length, take, length-map}
@@ -64,24 +65,8 @@ module _ {s : Links} {size places handle most : ℕ} {pool : List ℕ} (fits : P
     }
 
     -- where the buffer has no room nothing changes
-    pub take_refused : (out : List ℕ) → length out < len
-        → Takes s size places handle most pool out (record {
-          waiting = s.waiting;
-          waiting_count = s.waiting_count;
-          in_flight = s.in_flight;
-          fits = false;
-          count = 0;
-          len = 0;
-        }) out
-    take_refused out short = record {
-      asked = sym (rw taken_length (lt-leb len (length out) short));
-      viewed = λ e. absurd (true≢false (sym e));
-      held = fits.held;
-      counted = λ e. absurd (true≢false (sym e));
-      measured = λ e. absurd (true≢false (sym e));
-      written = λ e. absurd (true≢false (sym e));
-      refused = λ e. (refl, refl, refl, refl);
-    }
+    pub take_refused : (out : List ℕ) → length out < len → Takes s size places handle most pool out None out
+    take_refused out short = (rw taken_length (lt-leb len (length out) short), refl)
 
     -- the others wait on, and the chosen ones are in flight
     module _ {left : List Waiting} {k : ℕ} (leaves : Leaves s.waiting s.waiting_count handle most left k) where
@@ -116,14 +101,12 @@ module _ {s : Links} {size places handle most : ℕ} {pool : List ℕ} (fits : P
       pub take_done : {out : List ℕ} {n : ℕ} {after : List ℕ} → len ≤ length out
           → Put out 0 (end_to_end size pool (take count packets)) n after
           → Takes s size places handle most pool out
-          (record { waiting = left; waiting_count = k; in_flight = s.in_flight + count; fits = true; count = count; len = len })
-          after
+          (Some (record { waiting = left; waiting_count = k; in_flight = s.in_flight + count; count = count; len = len })) after
       take_done {out} room p = record {
-        asked = sym (rw taken_length (le-leb len (length out) room));
-        viewed = λ e. taken_after;
+        asked = rw taken_length (le-leb len (length out) room);
+        viewed = taken_after;
         held = taken_holds;
-        counted = λ e. chosen_count;
-        measured = λ e. sym taken_length;
-        written = λ e. p.leaves ∙ ap (splice out 0) chosen_octets;
-        refused = λ e. absurd (true≢false e);
+        counted = chosen_count;
+        measured = sym taken_length;
+        written = p.leaves ∙ ap (splice out 0) chosen_octets;
       }

@@ -1,7 +1,7 @@
 -- What queueing a packet and taking a link's packets do to the links, to the pool and to the buffer that packets are taken
 -- into. For data packets and `take_transmit` of the controller. What no definition decides is which place a queued packet gets:
 -- one that no other waiting packet owns.
-use Rattle.std.specs.Prelude.{◌≡◌, ℕ, ◌+◌, ◌*◌, ◌≤◌, ◌<◌, Bool, true, false, leb, length}
+use Rattle.std.specs.Prelude.{◌≡◌, ℕ, ◌+◌, ◌*◌, ◌≤◌, ◌<◌, Option, Some, None, Bool, true, false, leb, length}
 use mathlib.Core.List.{List, map, flatten}
 use Rattle.octets.specs.Octets.{splice}
 use Rattle.lists.specs.Lists.{any, keyed}
@@ -65,12 +65,16 @@ taken_octets h most m = flatten (map (λ p. p.octets) (taken_from h most m))
 abbrev pub room_for : ℕ → ℕ → Model → List ℕ → Bool
 room_for h most m out = leb (length (taken_octets h most m)) (length out)
 
--- what taking gives: where the buffer has room, the packets at its front and the rest of it as it was
-pub record Takes (s : Links) (size places handle most : ℕ) (pool out : List ℕ) (r : Taken) (after : List ℕ) : Type 0 where
-  pub asked : r.fits ≡ room_for handle most (view s size pool) out
-  pub viewed : r.fits ≡ true → view (with_taken r s) size pool ≡ after_taking handle most (view s size pool)
+-- what taking gives where the buffer has room: the packets at its front and the rest of it as it was
+pub record Took (s : Links) (size places handle most : ℕ) (pool out : List ℕ) (r : Taken) (after : List ℕ) : Type 0 where
+  pub asked : room_for handle most (view s size pool) out ≡ true
+  pub viewed : view (with_taken r s) size pool ≡ after_taking handle most (view s size pool)
   pub held : LinksHold (with_taken r s) places size
-  pub counted : r.fits ≡ true → r.count ≡ length (taken_from handle most (view s size pool))
-  pub measured : r.fits ≡ true → r.len ≡ length (taken_octets handle most (view s size pool))
-  pub written : r.fits ≡ true → after ≡ splice out 0 (taken_octets handle most (view s size pool))
-  pub refused : r.fits ≡ false → (with_taken r s ≡ s) × (after ≡ out) × (r.count ≡ 0) × (r.len ≡ 0)
+  pub counted : r.count ≡ length (taken_from handle most (view s size pool))
+  pub measured : r.len ≡ length (taken_octets handle most (view s size pool))
+  pub written : after ≡ splice out 0 (taken_octets handle most (view s size pool))
+
+-- what taking gives; where the buffer has no room nothing changes
+abbrev pub Takes : Links → ℕ → ℕ → ℕ → ℕ → List ℕ → List ℕ → Option Taken → List ℕ → Type 0
+Takes s size places handle most pool out None after = (room_for handle most (view s size pool) out ≡ false) × (after ≡ out)
+Takes s size places handle most pool out (Some r) after = Took s size places handle most pool out r after

@@ -18,12 +18,10 @@ fn owned_places(waiting: [Waiting; 32], n: usize) -> [u8; 32]
     ensures { Marks (take n waiting) result }
 {
     let mut marks = [0u8; 32];
-    let mut i: usize = 0;
-    while i < n {
+    for i in 0..n {
         let w = waiting[i];
         let place = w.place as usize;
         marks[place] = 1;
-        i += 1;
     }
     marks
 }
@@ -33,12 +31,10 @@ fn lowest_free(marks: &[u8; 32], n: usize) -> usize
     requires { (n ≤ 32) × (length marks.now ≡ 32) }
     ensures { result ≡ first_at is_free (take n marks.now) }
 {
-    let mut place: usize = 0;
-    while place < n {
+    for place in 0..n {
         if marks[place] == 0 {
             return place;
         }
-        place += 1;
     }
     n
 }
@@ -69,24 +65,21 @@ pub fn enqueue(
     let count = links.waiting_count;
     let place = free_place(waiting, count);
     octets::put(pool, place * size, &packet[..n]);
-    let len = n as u16;
-    let own = place as u8;
     waiting[count] = Waiting {
-        handle: handle,
-        len: len,
-        place: own,
+        handle,
+        len: n as u16,
+        place: place as u8,
     };
     waiting
 }
 
 // What taking gives: the packets that wait on, how many they are and how many are in flight; and how many packets and octets
-// were written, or that the buffer can't hold them.
+// were written.
 #[derive(Clone, Copy)]
 pub struct Taken {
     pub waiting: [Waiting; 32],
     pub waiting_count: usize,
     pub in_flight: u16,
-    pub fits: bool,
     pub count: usize,
     pub len: usize,
 }
@@ -103,10 +96,7 @@ struct Chosen {
 fn takes(own: u16, handle: u16, taken: usize, max: usize) -> bool
     ensures { result ≡ (ltb taken max && eqb own handle) }
 {
-    if taken >= max {
-        return false;
-    }
-    own == handle
+    taken < max && own == handle
 }
 
 // The first packets of a link, up to max, of the first n that wait.
@@ -117,8 +107,7 @@ fn choose(waiting: [Waiting; 32], n: usize, handle: u16, max: usize) -> Chosen
     let mut packets = waiting;
     let mut count: usize = 0;
     let mut len: usize = 0;
-    let mut i: usize = 0;
-    while i < n {
+    for i in 0..n {
         let w = waiting[i];
         let octets = w.len as usize;
         if takes(w.handle, handle, count, max) {
@@ -126,12 +115,11 @@ fn choose(waiting: [Waiting; 32], n: usize, handle: u16, max: usize) -> Chosen
             count += 1;
             len += octets;
         }
-        i += 1;
     }
     Chosen {
-        packets: packets,
-        count: count,
-        len: len,
+        packets,
+        count,
+        len,
     }
 }
 
@@ -140,8 +128,8 @@ fn copy_one(place: u8, len: u16, pool: &[u8], size: usize, out: &mut [u8], at: u
     requires { (place * size + len ≤ length pool.now) × (at + len ≤ length out.old) }
     ensures { Put out.old at (read_at size pool.now place len) result out.new }
 {
-    let start = (place as usize) * size;
-    let end = start + (len as usize);
+    let start = usize::from(place) * size;
+    let end = start + usize::from(len);
     octets::put(out, at, &pool[start..end])
 }
 
@@ -151,11 +139,9 @@ fn copy(packets: [Waiting; 32], n: usize, pool: &[u8], size: usize, out: &mut [u
     ensures { Put out.old 0 (end_to_end size pool.now (take n packets)) result out.new }
 {
     let mut at: usize = 0;
-    let mut i: usize = 0;
-    while i < n {
+    for i in 0..n {
         let w = packets[i];
         at = copy_one(w.place, w.len, pool, size, out, at);
-        i += 1;
     }
     at
 }
@@ -175,8 +161,7 @@ fn packets_left(waiting: [Waiting; 32], n: usize, handle: u16, max: usize) -> Le
     let mut left = waiting;
     let mut k: usize = 0;
     let mut taken: usize = 0;
-    let mut i: usize = 0;
-    while i < n {
+    for i in 0..n {
         let w = waiting[i];
         if takes(w.handle, handle, taken, max) {
             taken += 1;
@@ -184,7 +169,6 @@ fn packets_left(waiting: [Waiting; 32], n: usize, handle: u16, max: usize) -> Le
             left[k] = w;
             k += 1;
         }
-        i += 1;
     }
     Left {
         waiting: left,
@@ -193,7 +177,7 @@ fn packets_left(waiting: [Waiting; 32], n: usize, handle: u16, max: usize) -> Le
 }
 
 // Takes up to max packets of a link, oldest first, copied end to end to the front of out. Where out can't hold them all
-// nothing changes (question 7).
+// nothing changes, and there is no answer (question 7).
 pub fn take(
     links: Links,
     pool: &[u8],
@@ -202,7 +186,7 @@ pub fn take(
     handle: u16,
     max: usize,
     out: &mut [u8],
-) -> Taken
+) -> Option<Taken>
     requires { PoolFits links size places pool.now }
     ensures { Takes links size places handle max pool.now out.old result out.new }
 {
@@ -210,26 +194,17 @@ pub fn take(
     let n = links.waiting_count;
     let c = choose(waiting, n, handle, max);
     if out.len() < c.len {
-        return Taken {
-            waiting: waiting,
-            waiting_count: n,
-            in_flight: links.in_flight,
-            fits: false,
-            count: 0,
-            len: 0,
-        };
+        return None;
     }
     let packets = c.packets;
     copy(packets, c.count, pool, size, out);
     let left = packets_left(waiting, n, handle, max);
     let wait_on = left.waiting;
-    let in_flight = links.in_flight + (c.count as u16);
-    Taken {
+    Some(Taken {
         waiting: wait_on,
         waiting_count: left.count,
-        in_flight: in_flight,
-        fits: true,
+        in_flight: links.in_flight + (c.count as u16),
         count: c.count,
         len: c.len,
-    }
+    })
 }

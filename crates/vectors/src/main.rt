@@ -2,7 +2,20 @@
 // The file stdout has what the standard prints.
 #![tactic(auto)]
 
-use std::io;
+use std::{fmt, io};
+
+// Octets in hex, two digits each.
+#[derive(Drop)]
+struct Hex<'a>(&'a [u8]);
+
+impl fmt::Display for Hex<'_> {
+    fn fmt<W: fmt::Write>(&self, f: &mut fmt::Formatter<W>) -> fmt::Result {
+        for octet in self.0 {
+            write!(f, "{octet:02x}")?;
+        }
+        Ok(())
+    }
+}
 
 // The key of A.1 and B.
 const KEY: [u8; 16] = [
@@ -20,61 +33,26 @@ const INPUT_C1: [u8; 16] = [
 ];
 
 fn main(rt: HostRuntime) -> io::Result<()> {
-    write(&rt, b"FIPS 197 A.1\n")?;
-    line(&rt, b"key ", KEY)?;
+    println!(rt; "FIPS 197 A.1")?;
+    println!(rt; "key {}", Hex(&KEY))?;
     words(&rt, KEY)?;
-    write(&rt, b"FIPS 197 B\n")?;
+    println!(rt; "FIPS 197 B")?;
     example(&rt, INPUT_B, KEY)?;
-    write(&rt, b"FIPS 197 C.1\n")?;
+    println!(rt; "FIPS 197 C.1")?;
     example(&rt, INPUT_C1, KEY_C1)
 }
 
-// The words of the key expansion.
+// The words of the key expansion, a line each.
 fn words(rt: &impl Print, key: [u8; 16]) -> io::Result<()> {
-    let w = aes::key_expansion(key);
-    let mut i: usize = 0;
-    while i < 44 {
-        word(rt, i, w[i])?;
-        i += 1;
+    for (i, word) in aes::key_expansion(key).iter().enumerate() {
+        println!(rt; "w{i} {}", Hex(word))?;
     }
     Ok(())
-}
-
-// A line with word i of the key expansion.
-fn word(rt: &impl Print, i: usize, w: [u8; 4]) -> io::Result<()> {
-    write(rt, b"w")?;
-    rt.print(i)?;
-    write(rt, b" ")?;
-    octets(rt, &w)?;
-    write(rt, b"\n")
 }
 
 // A block, the key and the block encrypted.
 fn example(rt: &impl Print, input: [u8; 16], key: [u8; 16]) -> io::Result<()> {
-    line(rt, b"input ", input)?;
-    line(rt, b"key ", key)?;
-    line(rt, b"output ", aes::encrypt_128(key, input))
-}
-
-fn line(rt: &impl Print, name: &[u8], block: [u8; 16]) -> io::Result<()> {
-    write(rt, name)?;
-    octets(rt, &block)?;
-    write(rt, b"\n")
-}
-
-fn octets(rt: &impl Print, s: &[u8]) -> io::Result<()> {
-    let mut i: usize = 0;
-    while i < s.len() {
-        octet(rt, s[i])?;
-        i += 1;
-    }
-    Ok(())
-}
-
-fn octet(rt: &impl Print, b: u8) -> io::Result<()> {
-    print!(rt; "{b:02x}")
-}
-
-fn write(rt: &impl Print, text: &[u8]) -> io::Result<()> {
-    rt.write_all(text)
+    println!(rt; "input {}", Hex(&input))?;
+    println!(rt; "key {}", Hex(&key))?;
+    println!(rt; "output {}", Hex(&aes::encrypt_128(key, input)))
 }

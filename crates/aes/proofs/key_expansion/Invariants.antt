@@ -1,10 +1,6 @@
 -- key_expansion is the key expansion. The loop's invariant is Keys, of proofs/Keys.antt.
-use Prim.Native.Nat.{◌-◌}
 use Rattle.aes.proofs.Keys.{Keys}
 use Rattle.aes.proofs.key_expansion.Given as goal
 
 abbrev pub invariant-loop-i : goal.invariant-loop-i
 invariant-loop-i l = Keys l.initial.w l.w l.i
-
-abbrev pub decreases-loop-i : goal.decreases-loop-i
-decreases-loop-i l = 44 - l.i

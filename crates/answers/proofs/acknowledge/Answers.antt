@@ -1,26 +1,15 @@
--- `answers::acknowledge` meets its contract: one way for each form.
+-- `answers::acknowledge` meets its contract: hci's writers have the room that they ask for.
 use native.Mathlib.Omega.{arith}
-use Rattle.octets.proofs.Writing.{put_none}
-use Rattle.answers.proofs.Events.{complete_put, status_put}
-use borrow.Author.Rules.{rules}
+use Rattle.hci.proofs.Writers.{wrote_put}
 use Rattle.answers.proofs.acknowledge.Goals as goal
-
-pub bounds-returned-0 : goal.bounds-returned-0
-bounds-returned-0 c =
-    let told = rw c.in-Status.is at c.requires.told in
-    search (rules, told)
 
 pub returns-in-Complete : goal.returns-in-Complete
 returns-in-Complete c =
-    complete_put _ _ c.in-Complete.is c.requires
-    c.command_complete.ensures
-    c.counted.ensures
+    rw (c.in-Complete.is, c.counted.ensures)
+    (wrote_put c.command_complete.ensures (omega (arith, c.requires.short)) (omega (arith, c.requires.room)))
 
 pub returns-in-Status : goal.returns-in-Status
 returns-in-Status c =
-    status_put _ _ c.in-Status.is c.requires
-    c.command_status.ensures
-    c.counted-in-Status.ensures
-
-pub returns-in-Silent : goal.returns-in-Silent
-returns-in-Silent c = rw c.in-Silent.is (put_none (omega arith))
+    let told = rw c.in-Status.is at c.requires.told in
+    rw (c.in-Status.is, c.counted-in-Status.ensures)
+    (wrote_put c.command_status.ensures (omega arith) (omega (arith, told, c.requires.room)))

@@ -1,30 +1,26 @@
 -- `h4::frame` meets its contract: when the loop has come to an index, the octets before it are whole packets.
-use mathlib.Core.Path.{sym, ◌∙◌}
-use native.Mathlib.Omega.{arith}
+use Rattle.std.proofs.Common.{refl, sym, ap, arith, ◌∙◌, Ok, Err}
+use Rattle.std.proofs.lemmas.Result.{err_from_is_err_and}
+use borrow.Author.Tests.{lt-leb}
 use Rattle.h4.proofs.Reading.{packet_size}
-use Rattle.h4.proofs.Framing.{turn, ends_short, ends_more, ends_lost, ends_all}
+use Rattle.h4.proofs.Framing.{turn, ends}
 use Rattle.h4.proofs.frame.Goals as goal
 
-pub returns-then-bytes-at : goal.returns-then-bytes-at
-returns-then-bytes-at c =
-    ends_short _ _ c.loop-at.invariant c.in-Packet.n (sym c.h4_packet_len.ensures ∙ c.in-Packet.is) c.if-bytes-at.true
+pub loop-n-smaller : goal.loop-n-smaller
+loop-n-smaller c = omega (arith, packet_size _ c.in-Some.n (sym c.in_ok-n.ensures ∙ ap Ok c.in-Some.is))
 
-pub loop-at-smaller : goal.loop-at-smaller
-loop-at-smaller c =
-    let e = sym c.h4_packet_len.ensures ∙ c.in-Packet.is in
-    omega (arith, packet_size _ c.in-Packet.n e)
+pub loop-n-preserved : goal.loop-n-preserved
+loop-n-preserved c = turn _ _ c.loop-n.invariant c.in-Some.n (sym c.in_ok-n.ensures ∙ ap Ok c.in-Some.is) c.if-n-bytes.true
 
-pub loop-at-preserved : goal.loop-at-preserved
-loop-at-preserved c =
-    turn _ _ c.loop-at.invariant c.in-Packet.n (sym c.h4_packet_len.ensures ∙ c.in-Packet.is) c.if-bytes-at.false
+pub returns-in_ok-n : goal.returns-in_ok-n
+returns-in_ok-n c = ends _ _ c.loop-n.invariant (Ok c.in_ok-n.field-0) c.in_ok-n.ensures (cc)
 
-pub returns-in-More : goal.returns-in-More
-returns-in-More c =
-    ends_more _ _ c.loop-at.invariant (sym c.h4_packet_len.ensures ∙ c.in-More.is)
+pub returns-else-n-bytes : goal.returns-else-n-bytes
+returns-else-n-bytes c =
+    ends _ _ c.loop-n.invariant (Ok c.in_ok-n.field-0) c.in_ok-n.ensures
+    (rw (c.in-Some.is, lt-leb _ _ c.if-n-bytes.false))
 
-pub returns-in-Undefined : goal.returns-in-Undefined
-returns-in-Undefined c =
-    ends_lost _ _ c.loop-at.invariant c.in-Undefined.indicator (sym c.h4_packet_len.ensures ∙ c.in-Undefined.is)
-
-pub returns : goal.returns
-returns c = ends_all _ _ c.loop-at.invariant c.loop-at-test.false
+pub returns-in_err-n : goal.returns-in_err-n
+returns-in_err-n c =
+    let p = err_from_is_err_and c.from_residual.result c.from_residual.ensures.1 in
+    rw (p.1, p.2) (ends _ _ c.loop-n.invariant (Err c.in_err-n.field-0.0) c.in_err-n.ensures refl)

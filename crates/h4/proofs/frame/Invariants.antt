@@ -4,8 +4,8 @@ use lib.ListN.{length}
 use Rattle.h4.proofs.Framing.{Framing}
 use Rattle.h4.proofs.frame.Given as goal
 
-abbrev pub invariant-loop-at : goal.invariant-loop-at
-invariant-loop-at l = Framing l.bytes l.at
+abbrev pub invariant-loop-n : goal.invariant-loop-n
+invariant-loop-n l = Framing l.bytes l.at
 
-abbrev pub decreases-loop-at : goal.decreases-loop-at
-decreases-loop-at l = length l.bytes - l.at
+abbrev pub decreases-loop-n : goal.decreases-loop-n
+decreases-loop-n l = length l.bytes - l.at

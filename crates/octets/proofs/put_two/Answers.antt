@@ -1,7 +1,6 @@
 -- `octets::put_two` meets its contract.
 use Rattle.octets.proofs.Writing.{put_then}
-use borrow.Author.Rules.{rules}
 use Rattle.octets.proofs.put_two.Goals as goal
 
 pub returns : goal.returns
-returns c = search (rules, put_then)
+returns c = put_then c.put-b.ensures c.put.ensures

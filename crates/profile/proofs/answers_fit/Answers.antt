@@ -1,60 +1,27 @@
--- `answers_fit` meets its contract: the greatest answer so far and the answers left say whether each is at most 2.
-use mathlib.Core.Path.{◌≡◌, sym, ◌∙◌}
-use mathlib.Core.List.{List}
-use mathlib.Core.Bool.{and-false, and-true}
-use Prim.Native.Nat.{ℕ, ◌≤◌, ◌<◌, ◌+◌}
-use native.Mathlib.Omega.{arith}
-use native.Mathlib.Numerals.{add-one}
-use lib.Dec.{leb}
-use lib.ListN.{length, get_or}
-use lib.Seq.{drop-cons, drop-length}
-use borrow.Author.Tests.{le-leb, leb-true}
-use borrow.Table.Steps.{cases}
+-- `profile::answers_fit` meets its contract.
+use Rattle.std.proofs.Common.{◌≡◌, ℕ, leb, max, refl, sym, arith}
+use mathlib.Core.Bool.{◌&&◌}
+use lib.Seq.{take_all}
+use Rattle.std.proofs.lemmas.Bool.Decides.{nat_tests}
 use Rattle.lists.specs.Lists.{all}
-use Rattle.profile.proofs.answers_fit.Invariants.{Left}
-use Rattle.profile.proofs.answers_fit.Goals.{else-greatest-answer, then-greatest-answer}
+use Rattle.lists.proofs.Prefix.{all_next}
 use Rattle.profile.proofs.answers_fit.Goals as goal
 
--- an answer above the greatest so far takes its place; one at most it adds nothing
-above : (answers : List ℕ) (greatest i : ℕ) → Left answers greatest i → greatest < get_or answers i 0
-    → i < length answers → Left answers (get_or answers i 0) (i + 1)
-unfolding all
-above answers greatest i inv h b =
-    inv
-    ∙ rw (add-one, drop-cons answers i 0 b)
-    (cases (leb (get_or answers i 0) 2)
-    (λ e.
-    let k = leb-true (get_or answers i 0) 2 e in
-    rw (e, le-leb greatest 2 (omega arith)))
-    (λ e. rw e (and-false (leb greatest 2))))
+greatest_fits : (g a : ℕ) → leb (max g a) 2 ≡ leb g 2 && leb a 2
+greatest_fits g a = grind (arith, nat_tests)
 
-below : (answers : List ℕ) (greatest i : ℕ) → Left answers greatest i → get_or answers i 0 ≤ greatest
-    → i < length answers → Left answers greatest (i + 1)
+pub loop-answer-init : goal.loop-answer-init
 unfolding all
-below answers greatest i inv h b =
-    inv
-    ∙ rw (add-one, drop-cons answers i 0 b)
-    (cases (leb greatest 2)
-    (λ e.
-    let k = leb-true greatest 2 e in
-    rw (e, le-leb (get_or answers i 0) 2 (omega arith)))
-    (λ e. rw e))
+loop-answer-init c = refl
 
-pub loop-i-preserved : goal.loop-i-preserved
-loop-i-preserved c =
-    let l = c.loop-i in
+pub loop-answer-preserved : goal.loop-answer-preserved
+loop-answer-preserved c =
+    let l = c.loop-answer in
     let answers = c.args.answers.now in
-    let h : l.i < length answers = omega arith in
-    elim c.if-greatest-answer.branch [
-      | then-greatest-answer w ↦
-          (omega arith, rw w.greatest-is (above answers l.greatest l.i l.invariant.1 w.if-greatest-answer.true h))
-      | else-greatest-answer w ↦
-          (omega arith, rw w.greatest-is (below answers l.greatest l.i l.invariant.1 w.if-greatest-answer.false h))
-    ]
+    rw (c.max-greatest.ensures, greatest_fits, l.invariant) (sym (all_next (λ a. leb a 2) answers l.answer-index 0 (omega arith)))
 
 pub returns : goal.returns
-unfolding all
 returns c =
-    let l = c.loop-i in
-    let e : l.i ≡ length c.args.answers.now = omega arith in
-    sym (l.invariant.1 ∙ rw (e, drop-length) (and-true (leb l.greatest 2)))
+    let answers = c.args.answers.now in
+    let whole = take_all c.loop-answer.answer-index answers (omega arith) in
+    rw whole at c.loop-answer.invariant

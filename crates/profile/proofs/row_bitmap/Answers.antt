@@ -1,15 +1,15 @@
--- `profile::row_bitmap` meets its contract: the rows passed have set their bits.
-use Prim.Native.Nat.{◌<◌}
-use native.Mathlib.Omega.{arith}
-use lib.ListN.{length}
-use Rattle.profile.proofs.Bitmap.{row_listed, row_unknown, rows_end}
-use Rattle.profile.proofs.row_bitmap.Goals.{else-answers-i-ne2, then-answers-i-ne2}
+-- `profile::row_bitmap` meets its contract: where the loop ends, no row is left.
+use mathlib.Core.Logic.{◌⊎◌, inl, inr}
+use Rattle.std.proofs.Common.{◌≡◌, ◌∙◌, ℕ, List, [], ◌∷◌, refl, sym}
+use Rattle.std.proofs.lemmas.Slice.Zip.{either_empty_from_Zip}
+use Rattle.profile.specs.Profile.{row_bits}
 use Rattle.profile.proofs.row_bitmap.Goals as goal
 
-pub loop-i-preserved : goal.loop-i-preserved
-loop-i-preserved c = (omega arith, grind (arith, row_listed, row_unknown))
+no_rows : (map answers bits : List ℕ) → (answers ≡ []) ⊎ (bits ≡ []) → row_bits map answers bits ≡ map
+unfolding row_bits
+no_rows map [] bits e = refl
+no_rows map (answer ∷ answers) [] e = refl
+no_rows map (answer ∷ answers) (bit ∷ bits) e = elim e [ inl h ↦ cc | inr h ↦ cc ]
 
 pub returns : goal.returns
-returns c =
-    let l = c.loop-i in
-    rows_end c.args.answers.now c.args.bits.now l.map l.i l.invariant.1 (omega arith)
+returns c = sym (c.loop-answer.invariant ∙ no_rows _ _ _ (either_empty_from_Zip c.loop-answer.answer-iterator c.next.new.self _ c.in-None.is c.next.ensures.steps))

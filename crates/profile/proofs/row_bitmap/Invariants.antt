@@ -1,10 +1,8 @@
--- `profile::row_bitmap` meets its contract: the rows passed have set their bits.
-use Prim.Native.Nat.{◌≤◌, ◌-◌}
-use Rattle.profile.proofs.Bitmap.{Setting}
+-- `profile::row_bitmap`: the rows left give the rest of the map.
+use Rattle.std.proofs.Common.{◌≡◌}
+use Rattle.profile.specs.Profile.{row_bits, row_bitmap}
 use Rattle.profile.proofs.row_bitmap.Given as goal
 
-abbrev pub invariant-loop-i : goal.invariant-loop-i
-invariant-loop-i l = (l.i ≤ l.n) × Setting l.answers l.bits l.map l.i
-
-abbrev pub decreases-loop-i : goal.decreases-loop-i
-decreases-loop-i l = l.n - l.i
+abbrev pub invariant-loop-answer : goal.invariant-loop-answer
+invariant-loop-answer l =
+    row_bitmap l.answers l.bits ≡ row_bits l.map l.answer-iterator.a.rest.now l.answer-iterator.b.rest.now

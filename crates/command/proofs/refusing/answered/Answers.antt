@@ -6,7 +6,7 @@ use Rattle.command.proofs.refusing.answered.Goals as goal
 
 pub finished-requires : goal.finished-requires
 finished-requires c =
-    let answer = c.answer_for-answer.ensures in
+    let answer = c.answer_for.ensures in
     record {
       few = c.requires.0.holds.recent;
       holds = answer.shaped;
@@ -17,7 +17,7 @@ finished-requires c =
 pub returns : goal.returns
 returns c =
     let reason = c.args.reason in
-    let counted = c.counters_for-counters.ensures in
-    let set = c.settings_for-settings.ensures in
-    gave (reason_outcome reason c.args.profile c.args.op c.args.s counted set c.answer_for-answer.ensures)
+    let counted = c.counters_for.ensures in
+    let set = c.settings_for.ensures in
+    gave (reason_outcome reason c.args.profile c.args.op c.args.s counted set c.answer_for.ensures)
     (reason_holds reason c.args.profile c.args.op c.args.s counted set c.requires.0.holds) (c.finished.ensures _ refl refl refl)

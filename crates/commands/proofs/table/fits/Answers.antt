@@ -3,8 +3,10 @@ use mathlib.Core.Path.{sym, ◌∙◌}
 use Rattle.commands.proofs.Tables.{size_at, size_past}
 use Rattle.commands.proofs.table.fits.Goals as goal
 
-pub returns-then-place-ge71 : goal.returns-then-place-ge71
-returns-then-place-ge71 c = sym (size_past _ _ c.if-place-ge71.true)
+pub returns-in-Some : goal.returns-in-Some
+returns-in-Some c =
+    let found = c.in-Some.ensures.lookup in
+    c.size_fits.ensures ∙ sym (size_at _ _ _ found.1 found.3.0)
 
-pub returns : goal.returns
-returns c = c.size_fits.ensures ∙ sym (size_at c.args.place c.args.n c.if-place-ge71.false)
+pub returns-in-None : goal.returns-in-None
+returns-in-None c = sym (size_past _ _ c.in-None.ensures.lookup.3)

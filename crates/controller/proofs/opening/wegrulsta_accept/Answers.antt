@@ -1,56 +1,51 @@
 -- `controller::opening::wegrulsta_accept` meets its contract.
-use mathlib.Core.Path.{ap}
-use mathlib.Core.Bool.{not}
-use mathlib.Core.Path.{refl}
-use native.Mathlib.Omega.{arith}
+use mathlib.Core.Path.{refl, sym, ◌∙◌}
 use mathlib.Core.Bool.{cond}
 use mathlib.Core.List.{[], ◌∷◌}
+use lib.Dec.{leb}
+use lib.ListN.{length}
+use Rattle.profile.specs.Profile.{within_limits}
 use Rattle.links.specs.Links.{opened, can_open}
-use Rattle.state.proofs.Holding.{passed, failed}
 use Rattle.notices.proofs.Telling.{accept_connection_alone}
+use Rattle.state.specs.Holding.{state_holds}
 use Rattle.calls.specs.Calls.{first_no}
+use Rattle.controller.specs.declared.refusal.Refusal.TheVariants.{Handle}
 use Rattle.controller.specs.Answers.{is_random}
 use Rattle.controller.specs.Asked.{question}
-use Rattle.controller.proofs.Asking.{events_refused, events_asked}
-use Rattle.controller.proofs.Answering.{gives_refused_as, can_tell_alone, gives_told}
+use Rattle.controller.proofs.Asking.{more_refused, events_asked}
+use Rattle.controller.proofs.Answering.{gives_refused, can_tell_alone, gives_told}
 use Rattle.controller.proofs.opening.wegrulsta_accept.Goals as goal
 
-pub returns-then-number-ne0 : goal.returns-then-number-ne0
-returns-then-number-ne0 c =
+pub returns-in-Err : goal.returns-in-Err
+returns-in-Err c =
     let args = c.args in
-    let no = c.if-number-ne0.true in
-    gives_refused_as
+    gives_refused c.in-Err.refusal
     (λ pool opcodes answers bits.
-    events_refused args.profile args.s args.out.now (rw c.holds-held.ensures at c.about_events-number.ensures) no
-    (question 6 (can_open args.handle (opened args.s.links)) ∷ []))
-    no
-    c.refused.ensures
+    more_refused c.in-Err.refusal
+    (question 1 (within_limits args.profile) ∷ question 3 (state_holds args.s args.profile) ∷ question 5 (leb 71 (length args.out.now)) ∷ [])
+    (question 6 (can_open args.handle (opened args.s.links)) ∷ []) (rw c.holds-held.ensures at c.in-Err.ensures))
+    c.told.ensures
 
 pub can_open-requires : goal.can_open-requires
-can_open-requires c =
-    let args = c.args in
-    (events_asked args.profile args.s args.out.now (rw c.holds-held.ensures at c.about_events-number.ensures) c.if-number-ne0.false).held.links.few_links
+can_open-requires c = (events_asked c.args.profile c.args.s c.args.out.now c.holds-held.ensures c.in_default.ensures).held.links.few_links
 
 pub returns-then-not-can_open : goal.returns-then-not-can_open
 unfolding first_no
 returns-then-not-can_open c =
-    let args = c.args in
-    let yes = events_asked args.profile args.s args.out.now (rw c.holds-held.ensures at c.about_events-number.ensures) c.if-number-ne0.false in
-    gives_refused_as
-    (λ pool opcodes answers bits. rw (yes.limits, yes.together, yes.event_room, failed c.can_open.ensures (ap not c.if-not-can_open.true)))
-    (λ e. omega (arith, e))
-    c.refused-then-not-can_open.ensures
+    let yes = events_asked c.args.profile c.args.s c.args.out.now c.holds-held.ensures c.in_default.ensures in
+    gives_refused Handle
+    (λ pool opcodes answers bits. rw (yes.limits, yes.together, yes.event_room, sym c.can_open.ensures ∙ c.if-not-can_open.true))
+    c.told-then-not-can_open.ensures
 
 pub accept_connection-r-requires : goal.accept_connection-r-requires
 accept_connection-r-requires c =
-    let args = c.args in
-    let yes = events_asked args.profile args.s args.out.now (rw c.holds-held.ensures at c.about_events-number.ensures) c.if-number-ne0.false in
-    (yes.held.links.few_links, yes.held.links.few_waiting, passed c.can_open.ensures (ap not c.if-not-can_open.false))
+    let yes = events_asked c.args.profile c.args.s c.args.out.now c.holds-held.ensures c.in_default.ensures in
+    (yes.held.links.few_links, yes.held.links.few_waiting, sym c.can_open.ensures ∙ c.if-not-can_open.false)
 
-pub tell-written-requires : goal.tell-written-requires
-tell-written-requires c =
+pub heard-requires : goal.heard-requires
+heard-requires c =
     let args = c.args in
-    let yes = events_asked args.profile args.s args.out.now (rw c.holds-held.ensures at c.about_events-number.ensures) c.if-number-ne0.false in
+    let yes = events_asked args.profile args.s args.out.now c.holds-held.ensures c.in_default.ensures in
     can_tell_alone c.accept_connection-r.ensures yes.held
     (λ m.
     accept_connection_alone args.handle (cond (is_random args.peer_type) 1 0) args.peer.now args.interval args.latency args.timeout args.sca m)
@@ -59,8 +54,8 @@ tell-written-requires c =
 pub returns : goal.returns
 unfolding first_no
 returns c =
-    let args = c.args in
-    let yes = events_asked args.profile args.s args.out.now (rw c.holds-held.ensures at c.about_events-number.ensures) c.if-number-ne0.false in
-    gives_told c.accept_connection-r.ensures yes.held (λ pool opcodes answers bits. (refl, refl, refl))
-    (λ pool opcodes answers bits. rw (yes.limits, yes.together, yes.event_room, passed c.can_open.ensures (ap not c.if-not-can_open.false)))
-    c.tell-written.ensures
+    let yes = events_asked c.args.profile c.args.s c.args.out.now c.holds-held.ensures c.in_default.ensures in
+    rw (c.heard.ensures.number, c.heard.ensures.state)
+    (gives_told c.accept_connection-r.ensures yes.held (λ pool opcodes answers bits. (refl, refl, refl))
+    (λ pool opcodes answers bits. rw (yes.limits, yes.together, yes.event_room, sym c.can_open.ensures ∙ c.if-not-can_open.false))
+    c.heard.ensures.event)

@@ -2,18 +2,18 @@
 use Rattle.controller.proofs.Taken.{take_fits, take_not, take_no_room, take_gives}
 use Rattle.controller.proofs.taking.wegrulsta_take.Goals as goal
 
-pub returns-then-number-ne0 : goal.returns-then-number-ne0
-returns-then-number-ne0 c = take_not (rw c.holds-held.ensures at c.about_pool-number.ensures) c.if-number-ne0.true c.refused.ensures
+pub returns-in-Err : goal.returns-in-Err
+returns-in-Err c = take_not c.holds-held.ensures c.in-Err.refusal c.in-Err.ensures c.took.ensures
 
-pub take-r-requires : goal.take-r-requires
-take-r-requires c =
-    take_fits c.args.profile c.args.s c.args.pool.now (rw c.holds-held.ensures at c.about_pool-number.ensures) c.if-number-ne0.false
+pub take-requires : goal.take-requires
+take-requires c =
+    rw (c.from-size.ensures, c.from-places.ensures) (take_fits c.args.profile c.args.s c.args.pool.now c.holds-held.ensures c.in_default.ensures)
 
-pub returns-then-not-r : goal.returns-then-not-r
-returns-then-not-r c =
-    take_no_room (rw c.holds-held.ensures at c.about_pool-number.ensures) c.if-number-ne0.false c.take-r.ensures c.if-not-r.true c.refused-then-not-r.ensures
+pub returns-in_default-take : goal.returns-in_default-take
+returns-in_default-take c =
+    take_no_room c.holds-held.ensures c.in_default.ensures (rw c.from-size.ensures at c.in_default-take.ensures)
+    c.took-in_default-take.ensures
 
 pub returns : goal.returns
 returns c =
-    let asked = rw c.holds-held.ensures at c.about_pool-number.ensures in
-    take_gives asked c.if-number-ne0.false c.take-r.ensures c.if-not-r.false
+    take_gives c.holds-held.ensures c.in_default.ensures (rw (c.from-size.ensures, c.from-places.ensures) at c.in-Some.ensures)

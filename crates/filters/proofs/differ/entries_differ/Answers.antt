@@ -1,37 +1,28 @@
--- `filters::differ::entries_differ` meets its contract: the first i entries differ and their marks are met.
-use native.Mathlib.Omega.{arith}
-use mathlib.Core.Path.{sym, ◌∙◌}
+-- `filters::differ::entries_differ` meets its contract.
+use Rattle.std.proofs.Common.{arith, sym, ◌∙◌}
 use Rattle.filters.proofs.Flat.{within}
 use Rattle.filters.proofs.Differing.{differ_begin, unmet_none, differ_turn, differ_stop, differ_end}
 use Rattle.filters.proofs.differ.entries_differ.Goals.{else-met-mark-via-then-met-mark+else-stands_before, else-met-mark-via-else-met-mark}
 use Rattle.filters.proofs.differ.entries_differ.Goals as goal
 
 pub loop-i-init : goal.loop-i-init
-loop-i-init c =
-    differ_begin c.args.width c.args.n c.args.octets.now c.requires.0 c.requires.1 c.type_inv.octets
+loop-i-init c = differ_begin c.args.width c.args.n c.args.octets.now c.requires.0 c.requires.1 c.type_inv.octets
+
+pub overflow_mul-at : goal.overflow_mul-at
+overflow_mul-at c = omega (arith, within c.args.width c.args.n c.loop-i.i c.loop-i-test.true)
 
 pub low_at-requires : goal.low_at-requires
-low_at-requires c =
-    let a = c.args in
-    omega (arith, within a.width a.n c.loop-i.i c.loop-i-test.true)
+low_at-requires c = omega (arith, within c.args.width c.args.n c.loop-i.i c.loop-i-test.true)
 
 pub stands_before-requires : goal.stands_before-requires
 stands_before-requires c =
-    let a = c.args in
-    let inside = within a.width a.n c.loop-i.i c.loop-i-test.true in
+    let inside = within c.args.width c.args.n c.loop-i.i c.loop-i-test.true in
     (omega arith, omega (arith, inside), omega (arith, inside))
 
 pub returns-then-stands_before : goal.returns-then-stands_before
 returns-then-stands_before c =
-    let l = c.loop-i in
-    differ_stop c.args.width c.args.n c.args.octets.now c.requires.0 c.requires.1 c.type_inv.octets l.invariant
-    c.low_at.ensures c.loop-i-test.true
-    c.stands_before.ensures c.if-stands_before.true
-
-pub overflow_add-at : goal.overflow_add-at
-overflow_add-at c =
-    let a = c.args in
-    omega (arith, within a.width a.n c.loop-i.i c.loop-i-test.true)
+    differ_stop c.args.width c.args.n c.args.octets.now c.requires.0 c.requires.1 c.type_inv.octets c.loop-i.invariant
+    c.low_at.ensures c.loop-i-test.true c.stands_before.ensures c.if-stands_before.true
 
 pub loop-i-preserved : goal.loop-i-preserved
 loop-i-preserved c =
@@ -50,5 +41,5 @@ loop-i-preserved c =
 
 pub returns : goal.returns
 returns c =
-    differ_end c.args.width c.args.n c.args.octets.now c.requires.0 c.requires.1
-    c.type_inv.octets c.loop-i.invariant (omega arith)
+    differ_end c.args.width c.args.n c.args.octets.now c.requires.0 c.requires.1 c.type_inv.octets c.loop-i.invariant
+    (omega arith)

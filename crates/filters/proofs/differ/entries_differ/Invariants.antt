@@ -1,10 +1,6 @@
 -- `filters::differ::entries_differ` meets its contract: the first i entries differ and their marks are met.
-use Prim.Native.Nat.{◌-◌}
 use Rattle.filters.proofs.Differing.{Differing}
 use Rattle.filters.proofs.differ.entries_differ.Given as goal
 
 abbrev pub invariant-loop-i : goal.invariant-loop-i
-invariant-loop-i l = Differing l.width l.n l.octets l.met l.i l.at
-
-abbrev pub decreases-loop-i : goal.decreases-loop-i
-decreases-loop-i l = l.n - l.i
+invariant-loop-i l = Differing l.width l.n l.octets l.met l.i

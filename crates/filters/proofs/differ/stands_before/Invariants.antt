@@ -1,11 +1,8 @@
--- `filters::differ::stands_before` meets its contract: the entries before the one at i have other keys, and it stands at
--- `place`.
-use Prim.Native.Nat.{◌-◌}
-use Rattle.filters.proofs.Identities.{Seeking}
+-- `filters::differ::stands_before` meets its contract: the entries before the one at i have other keys.
+use Rattle.lists.specs.Lists.{keyed, chunks}
+use Rattle.lists.proofs.Search.{Searching}
+use Rattle.filters.specs.Keys.{key_of}
 use Rattle.filters.proofs.differ.stands_before.Given as goal
 
 abbrev pub invariant-loop-i : goal.invariant-loop-i
-invariant-loop-i l = Seeking l.width l.n l.octets l.key l.i l.place
-
-abbrev pub decreases-loop-i : goal.decreases-loop-i
-decreases-loop-i l = l.n - l.i
+invariant-loop-i l = Searching (keyed key_of l.key) (chunks l.width l.n l.octets) l.i

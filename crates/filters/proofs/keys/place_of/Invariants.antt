@@ -1,10 +1,8 @@
--- `filters::keys::place_of` meets its contract: the entries before the one at i have other keys, and it stands at `at`.
-use Prim.Native.Nat.{◌-◌}
-use Rattle.filters.proofs.Identities.{Seeking}
+-- `filters::keys::place_of` meets its contract: the entries before the one at i have other keys.
+use Rattle.lists.specs.Lists.{keyed, chunks}
+use Rattle.lists.proofs.Search.{Searching}
+use Rattle.filters.specs.Keys.{key_of}
 use Rattle.filters.proofs.keys.place_of.Given as goal
 
 abbrev pub invariant-loop-i : goal.invariant-loop-i
-invariant-loop-i l = Seeking l.width l.n l.octets l.key l.i l.at
-
-abbrev pub decreases-loop-i : goal.decreases-loop-i
-decreases-loop-i l = l.n - l.i
+invariant-loop-i l = Searching (keyed key_of l.key) (chunks l.width l.n l.octets) l.i

@@ -6,6 +6,5 @@ use Rattle.h4.proofs.H4Stream.packet_at.Goals as goal
 
 pub returns : goal.returns
 returns c =
-    let a = c.args in
-    let l = c.lesser-end in
-    c.front_packet.ensures ∙ packet_lent a.self.ready a.at l.result a.buffer.now l.ensures (omega arith)
+    c.front_packet.ensures
+    ∙ packet_lent c.args.self.ready c.args.at c.min-end.result c.args.buffer.now (omega arith) (omega arith)

@@ -1,10 +1,9 @@
 -- `hci::acl` meets its contract.
-use native.Mathlib.Omega.{arith}
-use Rattle.hci.proofs.Writers.{too_long, within}
+use Rattle.std.proofs.Common.{arith}
+use Rattle.hci.proofs.Writers.{written}
 use Rattle.hci.proofs.write.acl.Goals as goal
 
-pub returns-then-n-gt65535 : goal.returns-then-n-gt65535
-returns-then-n-gt65535 c = too_long (omega arith)
-
 pub returns : goal.returns
-returns c = within (omega arith) (rw c.widen.ensures at c.frame.ensures)
+returns c =
+    written (omega arith)
+    (rw (c.to_le_bytes.ensures, c.to_le_bytes-2.ensures, c.in-Ok.ensures.1, c.from.ensures) at c.put_two.ensures)

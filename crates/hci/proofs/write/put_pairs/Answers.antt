@@ -1,32 +1,36 @@
--- `put_pairs` meets its contract: after j turns the first j pairs are written.
-use mathlib.Core.Path.{refl, ◌∙◌}
-use mathlib.Core.List.{List, ◌++◌}
-use Prim.Native.Nat.{ℕ, ◌+◌, ◌≤◌, ◌<◌}
+-- `put_pairs` meets its contract: after so many turns as many pairs are written.
+use Rattle.std.proofs.Common.{◌≡◌, arith}
 use native.Mathlib.Numerals.{add-one}
-use native.Mathlib.Omega.{arith}
-use lib.ListN.{length, get_or}
-use Rattle.octets.specs.Octets.{Put, le}
-use Rattle.octets.proofs.Writing.{put_then, put_none, put_long}
+use Rattle.std.proofs.lemmas.List.{length_push}
+use Rattle.std.proofs.lemmas.Slice.Zip.{zip_turn, zip_end}
+use Rattle.octets.proofs.Writing.{put_then, put_none}
 use Rattle.hci.specs.Packet.{pairs}
-use Rattle.hci.proofs.Pairs.{pairs_suc}
-use Rattle.hci.proofs.write.put_pairs.Invariants.{Inv}
+use Rattle.hci.proofs.Pairs.{pairs_suc, pairs_all}
 use Rattle.hci.proofs.write.put_pairs.Goals as goal
 
-begin : (out₀ : List ℕ) (at : ℕ) (hs cs : List ℕ) (k : ℕ) → at ≤ length out₀ → Inv out₀ at hs cs k out₀ at 0
+pub loop-handle-init : goal.loop-handle-init
 unfolding pairs
-begin out₀ at hs cs k h = record { most = omega arith; place = omega arith; long = refl; written = put_none h }
+loop-handle-init c = record { place = omega arith; written = put_none (omega arith) }
 
-turn : {out₀ : List ℕ} {at : ℕ} {hs cs : List ℕ} {k : ℕ} {out : List ℕ} {p j r : ℕ} {after : List ℕ} → Inv out₀ at hs cs k out p j
-    → j < k → k ≤ length hs → k ≤ length cs → Put out p (le 2 (get_or hs j 0) ++ le 2 (get_or cs j 0)) r after → Inv out₀ at hs cs k after r (j + 1)
-turn {out₀} {at} {hs} {cs} {k} {out} {p} {j} v more hh hc w = record {
-  most = omega arith;
-  place = omega (arith, w.next);
-  long = put_long w ∙ v.long;
-  written = rw (add-one, pairs_suc hs cs j (omega arith) (omega arith)) (put_then v.written w);
-}
+pub loop-handle-preserved : goal.loop-handle-preserved
+loop-handle-preserved c =
+    let l = c.loop-handle in
+    let first : c.into_iter-handle-iterator.result.a.rest.now ≡ c.args.handles.now = cc in
+    let second : c.into_iter-handle-iterator.result.b.rest.now ≡ c.args.counts.now = cc in
+    let t =
+    zip_turn _ _ l.yielded _ _ c.next.new.self _ first second l.yielded_by (c.in-Some.handle, c.in-Some.count) c.in-Some.is
+    c.next.ensures.steps in
+    let w = rw (c.to_le_bytes.ensures, c.to_le_bytes-in-loop-handle.ensures, t.2 0, t.3 0) at c.put_two-p.ensures in
+    let e = length_push l.yielded (c.in-Some.handle, c.in-Some.count) in
+    record {
+      place = omega (arith, e, c.put_two-p.ensures.next);
+      written = rw (e, add-one, pairs_suc _ _ _ t.0 t.1) (put_then l.invariant.written w);
+    }
 
-pub loop-j-init : goal.loop-j-init
-loop-j-init c = begin _ _ _ _ _ (omega arith)
-
-pub loop-j-preserved : goal.loop-j-preserved
-loop-j-preserved c = turn c.loop-j.invariant (omega arith) (omega arith) (omega arith) c.put-p.ensures
+pub returns : goal.returns
+returns c =
+    let l = c.loop-handle in
+    let first : c.into_iter-handle-iterator.result.a.rest.now ≡ c.args.handles.now = cc in
+    let second : c.into_iter-handle-iterator.result.b.rest.now ≡ c.args.counts.now = cc in
+    let n = zip_end _ _ l.yielded _ _ c.next.new.self _ first second l.yielded_by c.in-None.is c.next.ensures.steps in
+    rw (pairs_all _ _ _ n) at l.invariant.written

@@ -1,25 +1,7 @@
--- `links::fields::set_terminating` meets its contract.
-use Rattle.lists.proofs.Copying.{length_of_map}
+-- `links::fields::set_terminating` meets its contract: the closure sets these fields.
+use Rattle.std.proofs.Common.{rules}
 use Rattle.links.specs.Fields.{with_terminating}
-use Rattle.links.proofs.Changing.{changes_found, changes_nothing}
-use mathlib.Core.Path.{◌≡◌, sym, ◌∙◌}
-use lib.ListN.{length}
-use native.Mathlib.Omega.{arith}
-use borrow.Author.Rules.{rules}
 use Rattle.links.proofs.fields.set_terminating.Goals as goal
 
-pub returns-in-Found : goal.returns-in-Found
-returns-in-Found c =
-    let s = c.args in
-    let e = c.connection_of-found.ensures in
-    changes_found s.handle (with_terminating s.reason) s.links _ (sym c.in-Found.is ∙ e)
-    c.store.ensures
-
-pub returns-in-Nothing : goal.returns-in-Nothing
-returns-in-Nothing c =
-    let s = c.args in
-    let e = c.connection_of-found.ensures in
-    let long : length s.links.connections ≡ 16 = search (rules, length_of_map) in
-    let wide : length s.links.waiting ≡ 32 = search (rules, length_of_map) in
-    changes_nothing s.handle (with_terminating s.reason) s.links (sym c.in-Nothing.is ∙ e) long wide
-    (omega arith) (omega arith)
+pub returns : goal.returns
+returns c = c.change.ensures (with_terminating c.args.reason) (λ x d q. search rules)

@@ -1,35 +1,24 @@
--- `links::hold::handles_differ` meets its contract: the lowest octets differ, or else, in the loop, each handle before index i
--- stands once among all sixteen.
-use borrow.Author.Count.{below_more}
-use Rattle.links.proofs.Gather.{handles_first, handles_once, handles_twice}
-use mathlib.Core.Path.{sym, ◌∙◌}
-use native.Mathlib.Omega.{arith}
-use borrow.Author.Rules.{rules}
+-- `links::hold::handles_differ` meets its contract: the lowest octets differ, or else each handle stands once or not.
+use Rattle.std.proofs.Common.{◌≡◌, eqb, take, sym, ◌∙◌, arith, rules, tests}
+use Rattle.std.specs.List.{list_all}
+use Rattle.std.proofs.lemmas.Iterator.{YieldsList-from_slice}
+use Rattle.std.proofs.lemmas.Iterator.Search.{all_from_yields_List}
+use Rattle.lists.proofs.Search.{all_list_all}
+use Rattle.links.specs.Gather.{times_in}
+use Rattle.links.proofs.Gather.{handles_first, handles_once}
 use Rattle.links.proofs.hold.handles_differ.Goals as goal
 
 pub returns-then-lowest_octets_differ : goal.returns-then-lowest_octets_differ
 returns-then-lowest_octets_differ c =
     let s = c.args in
-    λ cs g. sym (handles_first s.n cs s.handles.now g.keys (c.lowest_octets_differ.ensures c.if-lowest_octets_differ.true))
+    let yes = c.if-lowest_octets_differ.true in
+    λ cs g. yes ∙ sym (handles_first s.n cs s.handles.now g.keys (c.lowest_octets_differ.ensures yes))
 
-pub loop-i-init : goal.loop-i-init
-loop-i-init c = (search rules, λ k b. absurd (omega arith))
-
-pub returns-then-times-ne1 : goal.returns-then-times-ne1
-returns-then-times-ne1 c =
-    let s = c.args in
-    let l = c.loop-i in
-    λ cs g.
-    sym (handles_twice s.n cs s.handles.now l.i g (λ e. c.if-times-ne1.true (c.times.ensures ∙ e))
-    (omega arith))
-
-pub loop-i-preserved : goal.loop-i-preserved
-loop-i-preserved c =
-    let l = c.loop-i in
-    (search rules, below_more _ l.i l.invariant.1 (sym c.times.ensures ∙ c.if-times-ne1.false))
-
-pub returns : goal.returns
-returns c =
-    let s = c.args in
-    let l = c.loop-i in
-    λ cs g. sym (handles_once s.n cs s.handles.now g.keys (λ i b. l.invariant.1 i (omega arith)) (omega arith))
+pub returns-else-lowest_octets_differ : goal.returns-else-lowest_octets_differ
+returns-else-lowest_octets_differ c =
+    let n = c.args.n in
+    let l = c.args.handles.now in
+    let told : c.all.result ≡ list_all (λ x. eqb (times_in x l) 1) (take n l) =
+    all_from_yields_List (λ x. eqb (times_in x l) 1) _ _ c.all.result c.all.ensures.ran (YieldsList-from_slice (take n l) cc)
+    (λ x b q k. search (rules, tests)) in
+    λ cs g. told ∙ sym (all_list_all _ (take n l)) ∙ handles_once n cs l g (omega arith)

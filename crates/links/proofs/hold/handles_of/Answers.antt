@@ -1,37 +1,31 @@
--- `links::hold::handles_of` meets its contract: after i turns the first i handles are gathered.
+-- `links::hold::handles_of` meets its contract.
+use Rattle.std.proofs.Common.{ℕ, List, true, ◌≡◌, ◌<◌, length, get_or, refl, arith, ◌∙◌, ap}
+use lib.Seq.{get_or-take, length-take-le}
 use borrow.Author.Tests.{lt-ltb}
 use Rattle.lists.specs.Lists.{all}
-use Rattle.lists.proofs.Copying.{length_of_map}
+use Rattle.links.specs.declared.Connection.{Connection}
+use Rattle.links.specs.Holding.{handle_of}
 use Rattle.links.specs.Gather.{is_handle}
 use Rattle.lists.proofs.Prefix.{all_more}
 use Rattle.links.proofs.Gather.{gather_start, gather_more}
-use mathlib.Core.Path.{◌≡◌, refl}
-use lib.ListN.{length}
-use native.Mathlib.Omega.{arith}
-use borrow.Author.Rules.{rules}
 use Rattle.links.proofs.hold.handles_of.Goals as goal
+
+handle_small : (x : ℕ) (cs : List Connection) (i : ℕ) (d : Connection) → x ≡ (get_or cs i d).handle → x < 65536
+    → is_handle (get_or cs i d) ≡ true
+handle_small x cs i d e h = lt-ltb _ _ (rw (← e) h)
 
 pub loop-i-init : goal.loop-i-init
 unfolding all
-loop-i-init c =
-    let long : length c.args.connections ≡ 16 = search (rules, length_of_map) in
-    (search rules, record { keys = gather_start c.args.connections long; small = refl }, refl)
+loop-i-init c = (gather_start c.args.connections.now c.requires.1, refl)
 
 pub loop-i-preserved : goal.loop-i-preserved
 loop-i-preserved c =
-    let s = c.args in
+    let xs = c.args.connections.now in
     let l = c.loop-i in
-    let long : length s.connections ≡ 16 = search (rules, length_of_map) in
-    let k = c.handle_key.ensures in (
-      search rules,
-      record {
-        keys = rw k.0 (gather_more l.i s.connections l.out _ l.invariant.1.keys (omega arith));
-        small = all_more is_handle s.connections l.i _ l.invariant.1.small (lt-ltb _ _ k.1) (omega arith);
-      },
-      search rules,
+    let long = length-take-le c.args.n xs (omega arith) in
+    let within : l.i < length xs = omega arith in
+    let e = c.from.ensures ∙ ap handle_of (get_or-take c.args.n xs l.i _ (omega arith)) in
+    let small : c.from.result < 65536 = omega arith in (
+      rw e (gather_more l.i xs l.handles _ l.invariant.0 within),
+      all_more is_handle xs l.i _ l.invariant.1 (handle_small _ xs l.i _ e small) within,
     )
-
-pub returns : goal.returns
-returns c =
-    let e : c.loop-i.i ≡ c.args.n = omega arith in
-    rw e at c.loop-i.invariant.1

@@ -1,55 +1,48 @@
 -- `links::hold::links_hold` meets its contract.
-use borrow.Author.Tests.{le-leb, lt-leb}
+use Rattle.std.proofs.Common.{◌≡◌, length, sym, ◌∙◌, arith, rules}
+use borrow.Author.Tests.{eqb-true}
 use lib.Seq.{length-take-le}
+use Rattle.std.proofs.lemmas.Bool.Decides.{nat_tests}
 use Rattle.lists.proofs.Copying.{length_of_map}
 use Rattle.links.specs.Holding.{links_hold}
 use Rattle.links.proofs.Holding.{hold_no_links, hold_same_handles, hold_none_waiting, hold_packets}
-use mathlib.Core.Path.{◌≡◌, sym, ◌∙◌}
-use lib.ListN.{length}
-use native.Mathlib.Omega.{arith}
-use borrow.Author.Rules.{rules}
 use Rattle.links.proofs.hold.links_hold.Goals as goal
 
-pub returns-then-count-gt16 : goal.returns-then-count-gt16
+pub returns-then-links-gt16 : goal.returns-then-links-gt16
 unfolding links_hold
-returns-then-count-gt16 c = simp (lt-leb _ _ c.if-count-gt16.true)
+returns-then-links-gt16 c = grind (arith, nat_tests)
 
-pub returns-then-waiting_count-gt32 : goal.returns-then-waiting_count-gt32
+pub returns-then-links-from : goal.returns-then-links-from
 unfolding links_hold
-returns-then-waiting_count-gt32 c = simp (le-leb _ _ c.if-count-gt16.false, lt-leb _ _ c.if-waiting_count-gt32.true)
+returns-then-links-from c = grind (arith, nat_tests)
 
-pub returns-then-waiting_count-flying : goal.returns-then-waiting_count-flying
-unfolding links_hold
-returns-then-waiting_count-flying c =
-    let if1 = c.if-count-gt16.false in
-    simp (le-leb _ _ if1, le-leb _ _ c.if-waiting_count-gt32.false, lt-leb _ _ c.if-waiting_count-flying.true)
-
-pub returns-then-count-eq0 : goal.returns-then-count-eq0
-returns-then-count-eq0 c =
+pub returns-then-links-eq0 : goal.returns-then-links-eq0
+returns-then-links-eq0 c =
     let s = c.args in
     let wide : length s.links.waiting ≡ 32 = search (rules, length_of_map) in
-    hold_no_links s.links s.places s.size (omega arith) (omega arith) (omega arith) c.if-count-eq0.true
+    hold_no_links s.links s.places s.size (omega arith) (omega arith) (omega arith) c.if-links-eq0.true
     (length-take-le s.links.waiting_count s.links.waiting (omega arith))
 
 pub returns-then-not-handles_differ : goal.returns-then-not-handles_differ
 returns-then-not-handles_differ c =
     let s = c.args in
-    let differ = c.handles_differ.ensures s.links.connections
-    c.handles_of-handles.ensures in
+    let differ = c.handles_differ.ensures s.links.connections c.handles_of-handles.ensures in
     hold_same_handles s.links s.places s.size (omega arith) (omega arith) (omega arith)
     (sym differ ∙ c.if-not-handles_differ.true)
 
-pub returns-then-waiting_count-eq0 : goal.returns-then-waiting_count-eq0
-returns-then-waiting_count-eq0 c =
+pub returns-then-is_empty : goal.returns-then-is_empty
+returns-then-is_empty c =
     let s = c.args in
-    let differ = c.handles_differ.ensures s.links.connections
-    c.handles_of-handles.ensures in
-    hold_none_waiting s.links s.places s.size (omega arith) (omega arith) (omega arith)
-    (sym differ ∙ c.if-not-handles_differ.false)
-    c.if-waiting_count-eq0.true
+    let wide : length s.links.waiting ≡ 32 = search (rules, length_of_map) in
+    let differ = c.handles_differ.ensures s.links.connections c.handles_of-handles.ensures in
+    let none = eqb-true _ _ (sym c.is_empty.ensures ∙ c.if-is_empty.true) in
+    let e = length-take-le s.links.waiting_count s.links.waiting (omega arith) in
+    c.if-is_empty.true
+    ∙ hold_none_waiting s.links s.places s.size (omega arith) (omega arith) (omega arith)
+    (sym differ ∙ c.if-not-handles_differ.false) (omega arith)
 
-pub returns : goal.returns
-returns c =
+pub returns-else-is_empty : goal.returns-else-is_empty
+returns-else-is_empty c =
     let s = c.args in
     let g = c.handles_of-handles.ensures in
     let differ = c.handles_differ.ensures s.links.connections g in

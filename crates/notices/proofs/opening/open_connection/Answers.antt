@@ -1,5 +1,5 @@
 -- `notices::opening::open_connection` meets its contract.
-use mathlib.Core.Path.{refl}
+use Rattle.std.proofs.Common.{refl}
 use Rattle.links.specs.Links.{new_connection, opened_last}
 use Rattle.links.proofs.Keeping.{opened_holds}
 use Rattle.commands.proofs.Giving.{answered}
@@ -10,8 +10,8 @@ use Rattle.notices.proofs.opening.open_connection.Goals as goal
 pub returns : goal.returns
 unfolding open_connection
 returns c k held =
-    let args = c.args in
-    let new = new_connection args.handle args.interval args.latency args.timeout in
-    gives_links (opened_last new) c.open_connection-links.ensures.viewed
-    (opened_holds args.s.links held.links new c.requires.2 c.open_connection-links.ensures.lists)
-    (answered c.silent-answer.ensures refl) (λ size pool. refl) held
+    let t = c.args.timing in
+    let new = new_connection c.args.handle t.interval t.latency t.timeout in
+    gives_links (opened_last new) c.open_connection.ensures.viewed
+    (opened_holds c.args.s.links held.links new c.requires.2 c.open_connection.ensures.lists)
+    (answered c.silent.ensures refl) (λ size pool. refl) held

@@ -1,33 +1,16 @@
 -- `privacy::phy::set_phy` meets its contract.
-use mathlib.Core.Path.{refl, sym, ◌∙◌}
+use Rattle.std.proofs.Common.{rules, refl, ◌≡◌, ◌%◌, arith}
 use Rattle.octets.specs.Octets.{octet}
+use Rattle.hci.specs.Bits.{bit_of}
 use Rattle.links.specs.Fields.{with_phys}
 use Rattle.commands.specs.Privacy.{set_phy}
-use Rattle.commands.proofs.Giving.{answered_then, gives_answer, gives_changed}
-use Rattle.privacy.proofs.Picking.{lowest_bit}
+use Rattle.commands.proofs.Giving.{answered_then, gives_changed}
 use Rattle.privacy.proofs.phy.set_phy.Goals as goal
 
-pub set_phys-requires : goal.set_phys-requires
-set_phys-requires c = c.requires.1
-
-pub returns-in-Found : goal.returns-in-Found
+pub returns : goal.returns
 unfolding set_phy
-returns-in-Found c = λ k h.
-    let tx = c.pick_phy-tx.result in
-    let rx = c.pick_phy-rx.result in
-    gives_changed c.word_at-handle.result (with_phys tx rx) (λ c. refl) c.set_phys.ensures
-    (answered_then c.followed_by_le-answer.ensures c.status-status.ensures refl)
-    (λ size pool.
-    rw (
-      sym c.word_at-handle.ensures,
-      sym c.connection_of-found.ensures ∙ c.in-Found.is,
-      lowest_bit (octet c.args.p.now 2),
-      sym c.pick_phy-tx.ensures,
-      sym c.pick_phy-rx.ensures,
-    )) h
-
-pub returns-in-Nothing : goal.returns-in-Nothing
-unfolding set_phy
-returns-in-Nothing c = λ k h.
-    let e = sym c.connection_of-found.ensures ∙ c.in-Nothing.is in
-    gives_answer c.status.ensures (λ size pool. rw (sym c.word_at-handle.ensures, e)) h
+returns c k held =
+    let all = octet c.args.p.now 2 in
+    let lowest : bit_of all 0 ≡ all % 2 = omega arith in
+    gives_changed c.word_at-handle.result (with_phys c.pick_phy-tx.result c.pick_phy-rx.result) (λ c. refl) c.set_phys.ensures
+    (answered_then c.followed_by_le.ensures c.status-status.ensures refl) (λ size pool. search rules) held

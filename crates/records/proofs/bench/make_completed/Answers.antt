@@ -9,8 +9,8 @@ slice_bounds-events-end c =
     let runs = runs_zeros c.requires.0 in
     written_fits runs (any_rows c.bench_profile-profile.ensures (c.wegrulsta_completed-r.ensures zeros))
 
-pub slice_bounds-print_answer-end : goal.slice_bounds-print_answer-end
-slice_bounds-print_answer-end c =
+pub slice_bounds-octets-end : goal.slice_bounds-octets-end
+slice_bounds-octets-end c =
     let runs = runs_zeros c.requires.0 in
     sym (written_long runs (any_rows c.bench_profile-profile.ensures (c.wegrulsta_completed-r.ensures zeros)))
 

@@ -9,8 +9,8 @@ slice_bounds-taken-end c =
     let pre = c.requires in
     written_fits pre.0 (any_rows c.bench_profile-profile.ensures c.wegrulsta_take-r.ensures)
 
-pub slice_bounds-print_answer-end : goal.slice_bounds-print_answer-end
-slice_bounds-print_answer-end c =
+pub slice_bounds-octets-end : goal.slice_bounds-octets-end
+slice_bounds-octets-end c =
     let pre = c.requires in
     sym (written_long pre.0 (any_rows c.bench_profile-profile.ensures c.wegrulsta_take-r.ensures))
 

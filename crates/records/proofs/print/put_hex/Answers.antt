@@ -1,11 +1,12 @@
--- `put_hex` meets its contract: after j turns the first j octets are written.
+-- `put_hex` meets its contract: the octets before the index are written.
 use native.Mathlib.Omega.{arith}
 use Rattle.records.proofs.Printing.{hex_begin, hex_turn}
 use Rattle.records.proofs.print.put_hex.Goals as goal
 
-pub loop-j-init : goal.loop-j-init
-loop-j-init c = hex_begin (omega arith)
+pub loop-x-init : goal.loop-x-init
+loop-x-init c = hex_begin (omega arith)
 
-pub loop-j-preserved : goal.loop-j-preserved
-loop-j-preserved c =
-    hex_turn c.loop-j.invariant c.loop-j-test.true (rw (c.hex_digit-high.ensures, c.hex_digit-low.ensures) at c.put-p.ensures)
+pub loop-x-preserved : goal.loop-x-preserved
+loop-x-preserved c =
+    hex_turn c.loop-x.invariant c.loop-x-test.true
+    (rw (c.hex_digit.ensures, c.hex_digit-in-loop-x.ensures) at c.put-p.ensures)

@@ -1,15 +1,17 @@
 -- `whole_len` meets its contract.
-use mathlib.Core.Path.{sym, ◌∙◌}
-use Rattle.h4.proofs.Reading.{whole_packet, whole_short, whole_other}
+use mathlib.Core.Path.{sym, ap, ◌∙◌}
+use Rattle.std.specs.Prelude.{Ok}
+use Rattle.h4.proofs.Reading.{whole_packet, whole_short, whole_more, whole_lost}
 use Rattle.records.proofs.print.whole_len.Goals as goal
 
-pub returns-then-octets-n : goal.returns-then-octets-n
-returns-then-octets-n c =
-    sym (whole_short _ c.in-Packet.n (sym c.h4_packet_len.ensures ∙ c.in-Packet.is) c.if-octets-n.true)
+pub returns-then-n-octets : goal.returns-then-n-octets
+returns-then-n-octets c = sym (whole_packet _ _ (sym c.in-Ok-Some.ensures ∙ ap Ok c.in-Ok-Some.field-0-is) c.if-n-octets.true)
 
-pub returns-else-octets-n : goal.returns-else-octets-n
-returns-else-octets-n c =
-    sym (whole_packet _ c.in-Packet.n (sym c.h4_packet_len.ensures ∙ c.in-Packet.is) c.if-octets-n.false)
+pub returns-else-n-octets : goal.returns-else-n-octets
+returns-else-n-octets c = sym (whole_short _ _ (sym c.in-Ok-Some.ensures ∙ ap Ok c.in-Ok-Some.field-0-is) c.if-n-octets.false)
 
-pub returns-in_default : goal.returns-in_default
-returns-in_default c = sym (whole_other _ _ c.h4_packet_len.ensures c.in_default.not-Packet)
+pub returns-in-Ok-None : goal.returns-in-Ok-None
+returns-in-Ok-None c = sym (whole_more _ (sym c.in-Ok-None.ensures ∙ ap Ok c.in-Ok-None.field-0-is))
+
+pub returns-in-Err : goal.returns-in-Err
+returns-in-Err c = sym (whole_lost _ _ (sym c.in-Err.ensures))

@@ -1,36 +1,32 @@
 -- `records::read::read_opening` meets its contract.
-use mathlib.Core.Path.{sym, ◌∙◌}
 use Rattle.records.proofs.Numbers.{head_yes, opening_none, opening_one, opening_two}
 use Rattle.records.proofs.read.read_opening.Goals as goal
 
-pub returns-in_default : goal.returns-in_default
-returns-in_default c = λ packet. opening_none _ (sym c.in_default.is ∙ c.first_number.ensures)
+pub returns-in_err-handle : goal.returns-in_err-handle
+returns-in_err-handle c = λ packet. rw c.from_residual.ensures (opening_none _ c.in_err-handle.ensures)
 
 pub slice_bounds-behind-count : goal.slice_bounds-behind-count
-slice_bounds-behind-count c = (head_yes _ _ _ (sym c.in-Then.is ∙ c.first_number.ensures)).within
+slice_bounds-behind-count c = (head_yes _ _ _ c.in_ok-handle.ensures).within
 
 pub slice_bounds-behind-start : goal.slice_bounds-behind-start
-slice_bounds-behind-start c = (head_yes _ _ _ (sym c.in-Then.is ∙ c.first_number.ensures)).within
+slice_bounds-behind-start c = (head_yes _ _ _ c.in_ok-handle.ensures).within
 
-pub returns-in_default-first_number : goal.returns-in_default-first_number
-returns-in_default-first_number c =
-    λ packet. opening_one _ _ _ (sym c.in-Then.is ∙ c.first_number.ensures)
-    (sym c.in_default-first_number.is ∙ c.first_number-2.ensures)
+pub returns-in_err-interval : goal.returns-in_err-interval
+returns-in_err-interval c =
+    λ packet. rw c.from_residual-in_err-interval.ensures (opening_one _ _ _ c.in_ok-handle.ensures c.in_err-interval.ensures)
 
 pub slice_bounds-read_pair-count : goal.slice_bounds-read_pair-count
-slice_bounds-read_pair-count c = (head_yes _ _ _ (sym c.in-Then-first_number.is ∙ c.first_number-2.ensures)).within
+slice_bounds-read_pair-count c = (head_yes _ _ _ c.in_ok-interval.ensures).within
 
 pub slice_bounds-read_pair-start : goal.slice_bounds-read_pair-start
-slice_bounds-read_pair-start c = (head_yes _ _ _ (sym c.in-Then-first_number.is ∙ c.first_number-2.ensures)).within
+slice_bounds-read_pair-start c = (head_yes _ _ _ c.in_ok-interval.ensures).within
 
-pub returns-in_default-read_pair : goal.returns-in_default-read_pair
-returns-in_default-read_pair c =
-    λ packet. opening_two _ _ _ _ _ _ (sym c.in-Then.is ∙ c.first_number.ensures)
-    (sym c.in-Then-first_number.is ∙ c.first_number-2.ensures)
-    (sym c.in_default-read_pair.is ∙ c.read_pair.ensures)
+pub returns-in_err-latency : goal.returns-in_err-latency
+returns-in_err-latency c =
+    λ packet.
+    rw c.from_residual-in_err-latency.ensures
+    (opening_two _ _ _ _ _ _ c.in_ok-handle.ensures c.in_ok-interval.ensures c.in_err-latency.ensures)
 
 pub returns : goal.returns
 returns c =
-    λ packet. opening_two _ _ _ _ _ _ (sym c.in-Then.is ∙ c.first_number.ensures)
-    (sym c.in-Then-first_number.is ∙ c.first_number-2.ensures)
-    (sym c.in-Two.is ∙ c.read_pair.ensures)
+    λ packet. opening_two _ _ _ _ _ _ c.in_ok-handle.ensures c.in_ok-interval.ensures c.in_ok-latency.ensures

@@ -5,7 +5,7 @@ use Rattle.state.proofs.history.remember.Goals as goal
 
 pub returns : goal.returns
 returns c =
-    let kept = c.lesser-kept in
-    one_more c.args.recent.octets _ _ _ c.args.recent.count kept.result (search rules) c.requires kept.ensures
+    rw c.to_le_bytes.ensures at
+    (one_more c.args.recent.octets _ _ _ c.args.recent.count c.min-kept.result (search rules) c.requires c.min-kept.ensures
     c.put-end.ensures
-    c.put.ensures
+    c.put.ensures)

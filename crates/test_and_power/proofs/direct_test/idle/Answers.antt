@@ -1,20 +1,12 @@
 -- `idle` meets its contract.
-use mathlib.Core.Path.{sym, ◌∙◌}
-use borrow.Author.Tests.{eq-eqb, ne_eqb}
+use Rattle.std.proofs.Common.{[], rules}
 use Rattle.commands.specs.Test.{idle}
 use Rattle.test_and_power.proofs.direct_test.idle.Goals as goal
 
-pub returns-then-s-ne0 : goal.returns-then-s-ne0
+pub returns-then-s-eq0 : goal.returns-then-s-eq0
 unfolding idle
-returns-then-s-ne0 c = λ size pool. rw (ne_eqb _ _ c.if-s-ne0.true)
+returns-then-s-eq0 c = let busy = c.busy.ensures 0 [] in search rules
 
-pub returns-then-busy : goal.returns-then-busy
+pub returns-else-s-eq0 : goal.returns-else-s-eq0
 unfolding idle
-returns-then-busy c =
-    λ size pool. rw (eq-eqb _ _ c.if-s-ne0.false, sym (c.busy.ensures size pool) ∙ c.if-busy.true)
-
-pub returns : goal.returns
-unfolding idle
-returns c =
-    let none = eq-eqb _ _ c.if-s-ne0.false in
-    λ size pool. rw (none, sym (c.busy.ensures size pool) ∙ c.if-busy.false) c.no_link.ensures
+returns-else-s-eq0 c = let busy = c.busy.ensures 0 [] in search rules

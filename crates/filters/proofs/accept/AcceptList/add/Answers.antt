@@ -1,12 +1,6 @@
 -- `filters::accept::AcceptList::add` meets its contract: the entry is present, the list is full, or there is room.
-use Prim.Native.Nat.{◌+◌}
-use native.Mathlib.Omega.{arith}
-use mathlib.Core.Bool.{true, false}
-use mathlib.Core.Path.{◌≡◌, sym, ap, ◌∙◌}
-use lib.Dec.{leb}
-use lib.ListN.{length}
+use Rattle.std.proofs.Common.{◌≡◌, ◌+◌, true, false, length, sym, ap, ◌∙◌, arith, rules}
 use borrow.Author.Tests.{le-leb, lt-leb}
-use borrow.Author.Rules.{rules}
 use Rattle.lists.specs.Lists.{chunks}
 use Rattle.lists.proofs.Chunks.{length_chunks}
 use Rattle.filters.specs.Filters.{added, is_full, contains_entry, accept_entries}
@@ -21,33 +15,23 @@ returns-then-contains c =
     (rw present, rw present)
 
 pub returns-then-size-n : goal.returns-then-size-n
-unfolding added is_full
+unfolding is_full
 returns-then-size-n c =
-    let l = accept_entries c.args.self in
-    let absent : contains_entry c.args.entry l ≡ false =
-    sym c.contains.ensures ∙ c.if-contains.false in
-    let full : leb c.args.size (length l) ≡ true =
-    le-leb c.args.size (length l) (omega (arith, length_chunks 7 c.args.self.count c.args.self.octets)) in
-    (rw (absent, full), rw (absent, full))
-
-pub put-requires : goal.put-requires
-put-requires c =
     let a = c.args in
-    let long : length a.self.octets ≡ 224 = search rules in
-    let seven : length a.entry ≡ 7 = search rules in
-    omega arith
+    let l = accept_entries a.self in
+    let absent : contains_entry a.entry l ≡ false = sym c.contains.ensures ∙ c.if-contains.false in
+    let full = le-leb a.size (length l) (omega (arith, length_chunks 7 a.self.count a.self.octets)) in
+    rw (absent, full)
 
 pub returns : goal.returns
 unfolding added is_full
 returns c =
-    let n = c.args.self.count in
-    let l = accept_entries c.args.self in
-    let absent : contains_entry c.args.entry l ≡ false =
-    sym c.contains.ensures
-    ∙ c.if-contains.false in
-    let room : leb c.args.size (length l) ≡ false =
-    lt-leb c.args.size (length l) (omega (arith, length_chunks 7 n c.args.self.octets)) in
-    let long : length c.args.self.octets ≡ 224 = search rules in
-    let seven : length c.args.entry ≡ 7 = search rules in
-    let pushed = splice_push 7 n c.args.self.octets c.args.entry seven (omega arith) in
-    (rw (absent, room) (ap (chunks 7 (n + 1)) c.put.ensures.leaves ∙ pushed), rw (absent, room))
+    let a = c.args in
+    let n = a.self.count in
+    let l = accept_entries a.self in
+    let absent : contains_entry a.entry l ≡ false = sym c.contains.ensures ∙ c.if-contains.false in
+    let room = lt-leb a.size (length l) (omega (arith, length_chunks 7 n a.self.octets)) in
+    let long : length a.self.octets ≡ 224 = search rules in
+    let seven : length a.entry ≡ 7 = search rules in
+    let pushed = splice_push 7 n a.self.octets a.entry seven (omega arith) in
+    (rw (absent, room), rw (absent, room) (ap (chunks 7 (n + 1)) c.put.ensures.leaves ∙ pushed))

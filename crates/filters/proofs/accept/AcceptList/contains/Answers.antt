@@ -1,23 +1,16 @@
 -- `filters::accept::AcceptList::contains` meets its contract.
-use native.Mathlib.Omega.{arith}
-use mathlib.Core.Path.{◌≡◌, ◌∙◌}
-use lib.ListN.{length}
-use borrow.Author.Rules.{rules}
-use Rattle.lists.specs.Lists.{same_list}
-use Rattle.filters.proofs.Flat.{entry_found}
-use Rattle.filters.proofs.Identities.{first_entry}
+use Rattle.std.proofs.Common.{◌≡◌, length, ap, arith, rules, ◌∙◌}
+use Rattle.std.specs.Option.{is_some}
+use Rattle.lists.proofs.Search.{position_is_some}
+use Rattle.filters.specs.Filters.{has_identity, accept_entries}
+use Rattle.filters.proofs.Identities.{any_entry}
 use Rattle.filters.proofs.accept.AcceptList.contains.Goals as goal
-
-pub place_of-requires : goal.place_of-requires
-place_of-requires c =
-    let long : length c.args.self.octets ≡ 224 = search rules in
-    (omega arith, omega arith)
 
 pub returns : goal.returns
 returns c =
     let a = c.args in
-    let n = a.self.count in
-    let octets = a.self.octets in
-    let long : length octets ≡ 224 = search rules in
-    let first = c.place_of.ensures ∙ first_entry n octets (omega arith) a.entry in
-    entry_found 7 n octets (same_list a.entry) _ first
+    let long : length a.self.octets ≡ 224 = search rules in
+    c.is_some.ensures
+    ∙ ap is_some c.place_of.ensures.found
+    ∙ position_is_some (has_identity a.entry) (accept_entries a.self)
+    ∙ any_entry a.self.count a.self.octets (omega arith) a.entry

@@ -1,47 +1,30 @@
--- `filters::accept::AcceptList::remove` meets its contract: taking out one entry that is the same changes nothing of
--- what the definition keeps.
-use Prim.Native.Nat.{◌-◌}
-use native.Mathlib.Omega.{arith}
-use mathlib.Core.Path.{◌≡◌, refl, sym, ap, ◌∙◌}
-use lib.ListN.{length}
-use borrow.Author.Rules.{rules}
-use Rattle.lists.specs.Lists.{chunks}
+-- `filters::accept::AcceptList::remove` meets its contract.
+use Rattle.std.proofs.Common.{◌≤◌, length, sym, ap, ◌∙◌, arith}
+use Rattle.lists.specs.Lists.{chunks, first_at, same_list}
 use Rattle.lists.proofs.Chunks.{length_chunks}
-use Rattle.filters.specs.Filters.{removed}
+use Rattle.filters.specs.Filters.{removed, has_identity}
+use Rattle.filters.proofs.Flat.{entry_place, entry_none}
 use Rattle.filters.proofs.Kept.{removed_cut, removed_absent}
 use Rattle.filters.proofs.Identities.{first_entry}
 use Rattle.filters.proofs.accept.AcceptList.remove.Goals as goal
 
-pub place_of-place-requires : goal.place_of-place-requires
-place_of-place-requires c =
-    let long : length c.args.self.octets ≡ 224 = search rules in
-    (omega arith, omega arith)
-
-pub loop-place-init : goal.loop-place-init
-loop-place-init c =
-    let a = c.args in
-    let long : length a.self.octets ≡ 224 = search rules in
-    let same = first_entry a.self.count a.self.octets (omega arith) a.entry in
-    (omega arith, long, c.place_of-place.ensures ∙ same, refl)
-
 pub loop-place-preserved : goal.loop-place-preserved
 loop-place-preserved c =
-    let a = c.args in
+    let entry = c.args.entry in
     let l = c.loop-place in
-    let after = c.cut.new.octets in
-    let long : length after ≡ 224 = search rules in
-    let entries = chunks 7 l.n l.octets in (
+    let at = entry_place 7 l.n l.octets (has_identity entry) c.in-Some.place (sym c.place_of.ensures.found ∙ c.in-Some.is) in
+    let same = at.0 ∙ first_entry l.n l.octets (omega arith) entry in (
       omega arith,
-      long,
-      c.place_of-place-in-loop-place.ensures ∙ first_entry (l.n - 1) after (omega arith) a.entry,
-      ap (removed a.entry) c.cut.ensures
-          ∙ removed_cut a.entry entries l.place l.invariant.2 (omega (arith, length_chunks 7 l.n l.octets))
-          ∙ l.invariant.3,
+      ap (removed entry) c.cut.ensures
+          ∙ removed_cut entry (chunks 7 l.n l.octets) c.in-Some.place same (omega (arith, at.1, length_chunks 7 l.n l.octets))
+          ∙ l.invariant.1,
     )
 
 pub returns : goal.returns
 returns c =
-    let a = c.args in
+    let entry = c.args.entry in
     let l = c.loop-place in
-    let count = length_chunks 7 l.n l.octets in
-    sym (removed_absent a.entry (chunks 7 l.n l.octets) (omega arith)) ∙ l.invariant.3
+    let none = entry_none 7 l.n l.octets (has_identity entry) (sym c.place_of.ensures.found ∙ c.in_default.is) in
+    let absent : length (chunks 7 l.n l.octets) ≤ first_at (same_list entry) (chunks 7 l.n l.octets) =
+    rw (← first_entry l.n l.octets (omega arith) entry) none in
+    sym (removed_absent entry (chunks 7 l.n l.octets) absent) ∙ l.invariant.1

@@ -1,36 +1,24 @@
 -- `filters::resolving::ResolvingList::remove` meets its contract.
-use native.Mathlib.Omega.{arith}
-use mathlib.Core.Path.{◌≡◌, sym, ◌∙◌}
-use lib.ListN.{length}
-use borrow.Author.Rules.{rules}
-use Rattle.lists.specs.Lists.{chunks}
+use Rattle.std.proofs.Common.{sym, ◌∙◌, arith}
 use Rattle.lists.proofs.Cut.{without_at, without_none}
 use Rattle.lists.proofs.Chunks.{length_chunks}
-use Rattle.filters.specs.Filters.{has_identity}
+use Rattle.filters.specs.Filters.{has_identity, resolving_entries}
+use Rattle.filters.proofs.Flat.{entry_place, entry_none}
 use Rattle.filters.proofs.resolving.ResolvingList.remove.Goals as goal
 
-pub place_of-place-requires : goal.place_of-place-requires
-place_of-place-requires c =
-    let long : length c.args.self.octets ≡ 128 = search rules in
-    (omega arith, omega arith)
-
-pub returns-then-n-place : goal.returns-then-n-place
-returns-then-n-place c =
+pub returns-in_default : goal.returns-in_default
+returns-in_default c =
     let a = c.args in
-    let entries = chunks 8 a.self.count a.self.octets in
-    let count = length_chunks 8 a.self.count a.self.octets in
-    sym (without_none (has_identity a.identity) entries (omega (arith, c.place_of-place.ensures)))
-
-pub cut-requires : goal.cut-requires
-cut-requires c =
-    let long : length c.args.self.octets ≡ 128 = search rules in
-    (omega arith, omega arith)
+    let p = has_identity a.identity in
+    sym
+    (without_none p (resolving_entries a.self)
+    (entry_none 8 a.self.count a.self.octets p (sym c.place_of.ensures.found ∙ c.in_default.is)))
 
 pub returns : goal.returns
 returns c =
     let a = c.args in
-    let entries = chunks 8 a.self.count a.self.octets in
-    let at = c.place_of-place in
-    let count = length_chunks 8 a.self.count a.self.octets in
+    let p = has_identity a.identity in
+    let at = entry_place 8 a.self.count a.self.octets p c.in-Some.place (sym c.place_of.ensures.found ∙ c.in-Some.is) in
     c.cut.ensures
-    ∙ rw at.ensures (sym (without_at (has_identity a.identity) entries (omega (arith, at.ensures))))
+    ∙ rw at.0
+    (sym (without_at p (resolving_entries a.self) (omega (arith, at.0, at.1, length_chunks 8 a.self.count a.self.octets))))

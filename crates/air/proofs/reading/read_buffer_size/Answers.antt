@@ -1,9 +1,0 @@
--- `air::reading::read_buffer_size` meets its contract.
-use mathlib.Core.Path.{refl}
-use Rattle.commands.specs.Air.{read_buffer_size}
-use Rattle.commands.proofs.Giving.{answered}
-use Rattle.air.proofs.reading.read_buffer_size.Goals as goal
-
-pub returns : goal.returns
-unfolding read_buffer_size
-returns c = answered c.complete.ensures refl

@@ -1,2 +1,0 @@
--- The laws of answers as octets.
-pub mod Events
