@@ -1,6 +1,6 @@
 // The state after a command, put together from what the command changed. The functions that carry a command out, but for Reset,
 // which changes everything, give those parts alone: were the whole state to go through them, it would be copied twice more
-// (docs/SPEED.md).
+// (docs/SPEED.md). Inline for the same reason.
 ghost use Rattle.std.specs.Prelude.{◌≡◌};
 ghost use Rattle.command.specs.Calling.{told_of};
 
@@ -11,6 +11,7 @@ use state::Controller;
 impl Told {
     // What is told after a call that changes nothing and writes no event: with its number, a refusal, and with 0, a packet that
     // asks for nothing.
+    #[inline(always)]
     pub fn unchanged(s: Controller, number: u8) -> Told
         ensures { (result.number ≡ number) × (result.state ≡ s) × (result.written ≡ 0) }
     {
@@ -24,6 +25,7 @@ impl Told {
 
 impl Noted {
     // What is told after a command that changes no more, from the state before it.
+    #[inline(always)]
     pub fn told(self, s: Controller) -> Told
         ensures { result ≡ told_of s self }
     {
@@ -41,6 +43,7 @@ impl Noted {
 
 impl<P: StatePart> Changed<P> {
     // The same where the command changes a part besides.
+    #[inline(always)]
     pub fn told(self, s: Controller) -> Told
         ensures { result ≡ told_of (P.put self.part s) self.noted }
     {

@@ -1,4 +1,5 @@
-// What is counted and remembered of every command.
+// What is counted and remembered of every command. Inline in each function that carries commands out: out of line the compiler would
+// hand it copies of the state (docs/SPEED.md).
 ghost use Rattle.std.specs.Prelude.{◌≡◌, ◌≤◌};
 ghost use Rattle.answers.specs.Answers.{answer_of};
 ghost use Rattle.state.specs.State.{answers_of};
@@ -9,6 +10,7 @@ use answers::{Answer, Form};
 use state::{Controller, Counters, Recent, Settings};
 
 // The state with one command more and the command's family set, which every command that is carried out begins with.
+#[inline(always)]
 pub fn begun(s: Controller, op: u16) -> Controller
     ensures { result ≡ begun_from op s }
 {
@@ -20,6 +22,7 @@ pub fn begun(s: Controller, op: u16) -> Controller
 
 // The end of every command, which left these counters and settings and found these last answers: its answer is remembered, and
 // written to the front of out.
+#[inline(always)]
 pub fn finished(
     counters: Counters,
     settings: Settings,

@@ -10,6 +10,7 @@ use crate::refusal::{ACCEPTED, Refusal};
 use profile::ControllerRow;
 use state::Controller;
 
+// What a query finds stands beside a number, also where it is a flag: C gets it by value.
 #[repr(C)]
 #[derive(Clone, Copy)]
 pub struct Connected {
@@ -17,6 +18,7 @@ pub struct Connected {
     pub connected: bool,
 }
 
+// In the form of the other queries, though C does not get it.
 #[derive(Clone, Copy)]
 pub struct DisconnectWaits {
     pub number: u8,

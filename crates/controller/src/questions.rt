@@ -1,5 +1,5 @@
-// The questions that several calls begin with: each function gives the first with a "no". The calls ask question 3 themselves, and
-// `held` is its answer: the state would be copied to be handed on from here (docs/SPEED.md).
+// The questions that several calls begin with: each function gives the first with a "no". The calls ask question 3 themselves,
+// and `held` is its answer: the state would be copied to be handed on from here (docs/SPEED.md).
 ghost use Rattle.std.specs.Prelude.{◌≡◌, ◌*◌, leb};
 ghost use Rattle.state.specs.Holding.{place_size};
 ghost use Rattle.controller.specs.Asked.{refusal_number, about_state, about_events, about_pool, about_packet};

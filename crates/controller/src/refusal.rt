@@ -1,4 +1,5 @@
-// Why a call is refused, and what a refused call answers: the state as it came, nothing written, and the refusal's number.
+// Why a call is refused, and what a refused call answers: the state as it came, nothing written, and the refusal's number. The
+// answers are made inline, or the compiler would hand the state on (docs/SPEED.md).
 ghost use Rattle.std.specs.Prelude.{◌≡◌};
 ghost use Rattle.controller.specs.Asked.{number_of};
 
@@ -46,6 +47,7 @@ impl From<Refusal> for u8 {
 
 impl Refusal {
     // The answer of a call that tells the host.
+    #[inline(always)]
     pub fn told(self, s: Controller) -> Told
         ensures { (result.number ≡ number_of self) × (result.state ≡ s) × (result.written ≡ 0) }
     {
@@ -53,6 +55,7 @@ impl Refusal {
     }
 
     // The answer of a call that has no buffer.
+    #[inline(always)]
     pub fn changed(self, s: Controller) -> Changed
         ensures { (result.number ≡ number_of self) × (result.state ≡ s) }
     {
@@ -63,6 +66,7 @@ impl Refusal {
     }
 
     // The answer of a take.
+    #[inline(always)]
     pub fn took(self, s: Controller) -> Took
         ensures { (result.number ≡ number_of self) × (result.state ≡ s) × (result.count ≡ 0) × (result.written ≡ 0) }
     {

@@ -1,7 +1,8 @@
 // Which function carries out a command. A command that changes the state changes one part of it, and each part carries out its
 // own commands (`CommandPart`): it picks the command by its opcode and gives the new part beside the answer, so that the state
-// itself is put together once, by `command`. Commands that change nothing have `read`. Contracts cite `specs/Parts.antt` and the
-// table of commands, `specs/Table.antt` of the crate `commands`.
+// itself is put together once, by `command`. Commands that change nothing have `read`. Each arm of a match hands on what its command
+// needs: a table of functions would hand all of it to each, and is no plainer. Contracts cite `specs/Parts.antt` and the table of
+// commands, `specs/Table.antt` of the crate `commands`.
 #![tactic(auto)]
 
 ghost use Rattle.std.specs.Prelude.{◌≡◌, ◌<◌, ℕ, List, true, length, get_or};

@@ -26,7 +26,7 @@ pub fn set_event_mask(masks: Masks, p: &[u8]) -> Masks
     }
 }
 
-// Set Event Mask Page 2 (section 7.3.69).
+// Set Event Mask Page 2 (section 7.3.69). A function for each mask: one over all would be handed which field it sets, and is no plainer.
 pub fn set_event_mask_page2(masks: Masks, p: &[u8]) -> Masks
     requires { length p.now ≡ 8 }
     ensures { result ≡ with_event_mask_page2 (number_at 8 p.now 0) masks }

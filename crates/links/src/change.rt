@@ -23,7 +23,7 @@ fn keep_passing<T: Copy, F: Fn(&T) -> bool>(items: &mut [T], passes: F) -> usize
     kept
 }
 
-// The links without the connection of this handle.
+// The links without the connection of this handle. The array is filtered as a local: of a field lent in part the proof did not close.
 fn close_handle(mut links: Links, handle: u16) -> Links
     requires { CountsFit links }
     ensures { ListsOf result (keep (other_than handle) (opened links)) (waiting_of links) links.in_flight }

@@ -1,6 +1,6 @@
 // A link opens, by itself or by a central's request to connect, or advertising ends without one.
-ghost use Rattle.std.specs.Prelude.{◌≡◌, true, cond, ◌++◌, ◌≤◌, replicate};
-ghost use Rattle.links.specs.Links.{opened, can_open};
+ghost use Rattle.std.specs.Prelude.{◌≡◌, true, cond, ◌++◌, replicate};
+ghost use Rattle.links.specs.Links.{CountsFit, opened, can_open};
 ghost use Rattle.commands.specs.Outcome.{Answers, GivesAny};
 ghost use Rattle.commands.specs.Put.{put_links};
 ghost use Rattle.notices.specs.Notices.{tells, open_connection, connection_complete, accept_connection, advertising_timeout};
@@ -17,7 +17,7 @@ use state::{Controller, Masks};
 // A link opens with the defaults of a new LE connection; the host is told nothing.
 #[tactic(auto, unfolding(crate::specs::Notices::open_connection))]
 pub fn open_connection(s: Controller, handle: u16, timing: Timing) -> Answered<Links>
-    requires { (s.links.count ≤ 16) × (s.links.waiting_count ≤ 32) × (can_open handle (opened s.links) ≡ true) }
+    requires { CountsFit s.links × (can_open handle (opened s.links) ≡ true) }
     ensures { GivesAny (open_connection handle timing.interval timing.latency timing.timeout) s (put_links result.part s) result.answer }
 {
     Answered {
@@ -77,7 +77,7 @@ pub fn accept_connection(
     timing: Timing,
     sca: u8,
 ) -> Answered<Controller>
-    requires { (s.links.count ≤ 16) × (s.links.waiting_count ≤ 32) × (can_open handle (opened s.links) ≡ true) }
+    requires { CountsFit s.links × (can_open handle (opened s.links) ≡ true) }
     ensures { GivesAny (accept_connection handle (cond peer_random 1 0) peer timing.interval timing.latency timing.timeout sca) s result.part result.answer }
 {
     let kind = u8::from(peer_random);

@@ -78,6 +78,7 @@ pub struct Delivered {
 
 impl Delivered {
     // What is told after a data packet, which writes no event, from the state before it.
+    #[inline(always)]
     pub fn told(self, s: Controller) -> Told
         ensures { (result.number ≡ 0) × (result.written ≡ 0) × (result.state ≡ put_delivered self s) }
     {

@@ -46,7 +46,7 @@ impl Advertising {
         self
     }
 
-    // The same with another scan response (section 7.8.8).
+    // The same with another scan response (section 7.8.8). C's header names both pairs of fields, so they are no type of their own.
     #[tactic(auto, using(octets::proofs::Writing::put_front))]
     pub fn with_scan_response(mut self, load: &[u8]) -> Advertising
         requires { length load.now ≤ 31 }

@@ -16,7 +16,7 @@ use Rattle.lists.proofs.Copying.{take_push}
 use Rattle.lists.proofs.Taking.{Taking, taken_more, taken_same, Leaving, leaving_take, leaving_keep, leaving_end}
 use Rattle.links.specs.declared.Waiting.{Waiting}
 use Rattle.links.specs.Links.{waits_for}
-use Rattle.transmit.specs.Steps.{lengths, Chose, Leaves}
+use Rattle.transmit.specs.Steps.{lengths, Leaves}
 
 pub lengths_append : (l m : List Waiting) → lengths (l ++ m) ≡ lengths l + lengths m
 unfolding lengths
@@ -91,18 +91,6 @@ module _ {waiting : List Waiting} {n handle most : ℕ} {packets : List Waiting}
           measured = c.measured;
           bounded = omega (arith, c.bounded);
         }
-
-pub choose_end : {waiting : List Waiting} {n handle most : ℕ} {packets : List Waiting} {count len i : ℕ}
-    → Choosing waiting n handle most packets count len i → n ≤ i → Chose waiting n handle most packets count len
-choose_end {waiting} {n} {packets = packets} {count} {i = i} c done =
-    let e : i ≡ n = omega (arith, c.within) in
-    record {
-      waited = length-take-le n waiting c.waited;
-      first = c.first ∙ rw e;
-      few = omega (arith, c.few);
-      counted = length-take-le count packets (omega (arith, c.few, c.waited, c.room));
-      measured = c.measured;
-    }
 
 -- k packets kept and t taken, of the first i that wait
 pub record Removing (waiting : List Waiting) (n handle most : ℕ) (left : List Waiting) (k t i : ℕ) : Type 0 where

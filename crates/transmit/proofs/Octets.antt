@@ -6,7 +6,7 @@ use mathlib.Core.Bool.{true, and-eq-true_iff}
 use mathlib.Core.Path.{◌≡◌, refl, sym, ap, ◌∙◌}
 use mathlib.Core.List.{List, [], ◌∷◌, ◌++◌, flatten, append_assoc, append-nil}
 use lib.ListN.{length, take, drop, get_or, length-append, length-drop, take-append-drop}
-use lib.Seq.{length-take-le, take-suc, take-take, get_or-take}
+use lib.Seq.{length-take-le, take-suc, take_all}
 use borrow.Author.Tests.{leb-true}
 use Rattle.lists.specs.Lists.{all, read_at}
 use Rattle.lists.proofs.Tests.{all_at}
@@ -54,29 +54,24 @@ module _ (size : ℕ) (pool : List ℕ) where
       ∙ rw (length_read w k.0, length_end_to_end l k.1)
 
 -- the first i packets are copied
-pub record Copying (packets : List Waiting) (n size : ℕ) (pool out₀ out : List ℕ) (at i : ℕ) : Type 0 where
-  pub can : CanCopy (take n packets) n size pool out₀
-  pub long : n ≤ length packets
-  pub within : i ≤ n
+pub record Copying (packets : List Waiting) (size : ℕ) (pool out₀ out : List ℕ) (at i : ℕ) : Type 0 where
+  pub can : CanCopy packets (length packets) size pool out₀
   pub copied : Put out₀ 0 (end_to_end size pool (take i packets)) at out
 
-pub copy_none : {packets : List Waiting} {n size : ℕ} {pool out₀ : List ℕ} → CanCopy (take n packets) n size pool out₀ → n ≤ length packets
-    → Copying packets n size pool out₀ out₀ 0 0
+pub copy_none : {packets : List Waiting} {size : ℕ} {pool out₀ : List ℕ} → CanCopy packets (length packets) size pool out₀
+    → Copying packets size pool out₀ out₀ 0 0
 unfolding end_to_end flatten
-copy_none can h = record { can = can; long = h; within = omega arith; copied = put_none (omega arith) }
+copy_none can = record { can = can; copied = put_none (omega arith) }
 
-module _ {packets : List Waiting} {n size : ℕ} {pool out₀ out : List ℕ} {at i : ℕ} (d : Waiting)
-    (c : Copying packets n size pool out₀ out at i)
-    (more : i < n)
+module _ {packets : List Waiting} {size : ℕ} {pool out₀ out : List ℕ} {at i : ℕ} (d : Waiting)
+    (c : Copying packets size pool out₀ out at i) (more : i < length packets)
   where
     lies : lies_in size pool (get_or packets i d) ≡ true
-    lies =
-        let len : length (take n packets) ≡ n = length-take-le n packets c.long in
-        rw (get_or-take n packets i d more) at (all_at (lies_in size pool) (take n packets) i d c.can.within (omega arith))
+    lies = all_at (lies_in size pool) packets i d c.can.within more
 
     -- the next packet's octets, after those of the first i
     next : end_to_end size pool (take (i + 1) packets) ≡ end_to_end size pool (take i packets) ++ read_at size pool (get_or packets i d).place (get_or packets i d).len
-    next = end_to_end_more size pool packets i d (omega (arith, c.long))
+    next = end_to_end_more size pool packets i d more
 
     -- the next packet lies in the pool, and the buffer has room for it
     pub copy_fits : ((get_or packets i d).place * size + (get_or packets i d).len ≤ length pool) × (at + (get_or packets i d).len ≤ length out)
@@ -86,17 +81,13 @@ module _ {packets : List Waiting} {n size : ℕ} {pool out₀ out : List ℕ} {a
         ap length next
         ∙ length-append (end_to_end size pool (take i packets)) (read_at size pool w.place w.len)
         ∙ rw (length_read size pool w lies) in
-        let t : take (i + 1) (take n packets) ≡ take (i + 1) packets = take-take (i + 1) n packets (omega arith) in
-        let le : length (end_to_end size pool (take (i + 1) packets)) ≤ length (end_to_end size pool (take n packets)) =
-        rw t at (end_to_end_le size pool (take n packets) (i + 1)) in
+        let le = end_to_end_le size pool packets (i + 1) in
         (leb-true _ _ lies, omega (arith, c.can.room, c.copied.next, put_long c.copied))
 
     pub copy_more : {r : ℕ} {after : List ℕ} → Put out at (read_at size pool (get_or packets i d).place (get_or packets i d).len) r after
-        → Copying packets n size pool out₀ after r (i + 1)
-    copy_more p = record { can = c.can; long = c.long; within = omega arith; copied = rw next (put_then c.copied p) }
+        → Copying packets size pool out₀ after r (i + 1)
+    copy_more p = record { can = c.can; copied = rw next (put_then c.copied p) }
 
-pub copy_end : {packets : List Waiting} {n size : ℕ} {pool out₀ out : List ℕ} {at i : ℕ} → Copying packets n size pool out₀ out at i → n ≤ i
-    → Put out₀ 0 (end_to_end size pool (take n packets)) at out
-copy_end {n = n} {i = i} c done =
-    let e : i ≡ n = omega (arith, c.within) in
-    rw e at c.copied
+pub copy_end : {packets : List Waiting} {size : ℕ} {pool out₀ out : List ℕ} {at i : ℕ} → Copying packets size pool out₀ out at i
+    → length packets ≤ i → Put out₀ 0 (end_to_end size pool packets) at out
+copy_end {packets} {i = i} c done = let whole = take_all i packets done in (rw whole at c.copied)

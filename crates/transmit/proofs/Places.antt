@@ -51,13 +51,9 @@ marks_more xs marks i d m low h =
     }
 
 -- the place of a packet is one of the 32
-pub marked_below : (xs : List Waiting) (n i : ℕ) (d : Waiting) → CanMark (take n xs) n → i < n → n ≤ length xs
+pub marked_below : (xs : List Waiting) (i : ℕ) (d : Waiting) → CanMark xs (length xs) → i < length xs
     → (get_or xs i d).place < 32
-marked_below xs n i d can h f =
-    let len : length (take n xs) ≡ n = length-take-le n xs f in
-    let e : place_below 32 (get_or xs i d) ≡ true =
-    rw (get_or-take n xs i d h) at (all_at (place_below 32) (take n xs) i d can.placed (omega arith)) in
-    ltb-true _ _ e
+marked_below xs i d can h = ltb-true _ _ (all_at (place_below 32) xs i d can.placed h)
 
 module _ (l : List Waiting) (marks : List ℕ) (m : Marks l marks) where
   -- a place without a mark is owned by no packet, and one with a mark by some packet

@@ -1,9 +1,9 @@
 -- Taking a link's packets: what the links hold once the first of them have gone in flight, that they still hold together, and
 -- what is written into the buffer, or that nothing changes where it has no room.
+use Rattle.std.specs.Prelude.{Some, None}
 use Prim.Native.Nat.{ℕ, ◌+◌, ◌≤◌, ◌<◌}
 use native.Mathlib.Omega.{arith}
 use mathlib.Core.Bool.{true}
-use Rattle.std.specs.Prelude.{Some, None}
 use mathlib.Core.Path.{◌≡◌, refl, sym, ap, ◌∙◌}
 use mathlib.Core.List.{List, map, map-map, flatten}
 use lib.ListN.{length, take, length-map}
@@ -101,7 +101,9 @@ module _ {s : Links} {size places handle most : ℕ} {pool : List ℕ} (fits : P
       pub take_done : {out : List ℕ} {n : ℕ} {after : List ℕ} → len ≤ length out
           → Put out 0 (end_to_end size pool (take count packets)) n after
           → Takes s size places handle most pool out
-          (Some (record { waiting = left; waiting_count = k; in_flight = s.in_flight + count; count = count; len = len })) after
+          (Some
+          (record { waiting = left; waiting_count = k; in_flight = s.in_flight + count; count = count; len = len }))
+          after
       take_done {out} room p = record {
         asked = rw taken_length (le-leb len (length out) room);
         viewed = taken_after;

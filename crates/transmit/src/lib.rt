@@ -12,40 +12,35 @@ ghost use Rattle.transmit.specs.Steps.{CanMark, Marks, is_free, FreePlace, Chose
 
 use links::{Links, Waiting};
 
-// Which of the 32 places the first n waiting packets own: 1 at those, 0 at the others.
-fn owned_places(waiting: [Waiting; 32], n: usize) -> [u8; 32]
-    requires { CanMark (take n waiting) n }
-    ensures { Marks (take n waiting) result }
+// Which of the 32 places the waiting packets own: 1 at those, 0 at the others.
+fn owned_places(waiting: &[Waiting]) -> [u8; 32]
+    requires { CanMark waiting.now (length waiting.now) }
+    ensures { Marks waiting.now result }
 {
-    let mut marks = [0u8; 32];
-    for i in 0..n {
-        let w = waiting[i];
-        let place = w.place as usize;
-        marks[place] = 1;
+    let mut marks = [0; 32];
+    for w in waiting {
+        marks[usize::from(w.place)] = 1;
     }
     marks
 }
 
-// The lowest of the first n places that is not marked, or n.
-fn lowest_free(marks: &[u8; 32], n: usize) -> usize
-    requires { (n ≤ 32) × (length marks.now ≡ 32) }
-    ensures { result ≡ first_at is_free (take n marks.now) }
+// The lowest place that is not marked, or how many places there are.
+fn lowest_free(marks: &[u8]) -> usize
+    ensures { result ≡ first_at is_free marks.now }
 {
-    for place in 0..n {
-        if marks[place] == 0 {
-            return place;
-        }
-    }
-    n
+    marks
+        .iter()
+        .position(|mark| *mark == 0)
+        .unwrap_or(marks.len())
 }
 
-// A place, one of the lowest n + 1, that none of the first n waiting packets owns.
-fn free_place(waiting: [Waiting; 32], n: usize) -> usize
-    requires { CanMark (take n waiting) n }
-    ensures { FreePlace (take n waiting) n result }
+// A place, one of the lowest n + 1, that none of the n waiting packets owns.
+fn free_place(waiting: &[Waiting]) -> usize
+    requires { CanMark waiting.now (length waiting.now) }
+    ensures { FreePlace waiting.now (length waiting.now) result }
 {
-    let marks = owned_places(waiting, n);
-    lowest_free(&marks, n)
+    let marks = owned_places(waiting);
+    lowest_free(&marks[..waiting.len()])
 }
 
 // The waiting packets with one more, the first n octets of packet, copied to a place that no waiting packet owns.
@@ -63,7 +58,7 @@ pub fn enqueue(
 {
     let mut waiting = links.waiting;
     let count = links.waiting_count;
-    let place = free_place(waiting, count);
+    let place = free_place(&waiting[..count]);
     octets::put(pool, place * size, &packet[..n]);
     waiting[count] = Waiting {
         handle,
@@ -100,18 +95,17 @@ fn takes(own: u16, handle: u16, taken: usize, max: usize) -> bool
 }
 
 // The first packets of a link, up to max, of the first n that wait.
-fn choose(waiting: [Waiting; 32], n: usize, handle: u16, max: usize) -> Chosen
+fn choose(waiting: &[Waiting; 32], n: usize, handle: u16, max: usize) -> Chosen
     requires { n ≤ 32 }
-    ensures { Chose waiting n handle max result.packets result.count result.len }
+    ensures { Chose waiting.now n handle max result.packets result.count result.len }
 {
-    let mut packets = waiting;
-    let mut count: usize = 0;
-    let mut len: usize = 0;
-    for i in 0..n {
-        let w = waiting[i];
-        let octets = w.len as usize;
+    let mut packets = *waiting;
+    let mut count = 0;
+    let mut len = 0;
+    for w in &waiting[..n] {
+        let octets = usize::from(w.len);
         if takes(w.handle, handle, count, max) {
-            packets[count] = w;
+            packets[count] = *w;
             count += 1;
             len += octets;
         }
@@ -129,18 +123,16 @@ fn copy_one(place: u8, len: u16, pool: &[u8], size: usize, out: &mut [u8], at: u
     ensures { Put out.old at (read_at size pool.now place len) result out.new }
 {
     let start = usize::from(place) * size;
-    let end = start + usize::from(len);
-    octets::put(out, at, &pool[start..end])
+    octets::put(out, at, &pool[start..start + usize::from(len)])
 }
 
-// Copies the first n of the packets out of their places to the front of out, end to end.
-fn copy(packets: [Waiting; 32], n: usize, pool: &[u8], size: usize, out: &mut [u8]) -> usize
-    requires { CanCopy (take n packets) n size pool.now out.old }
-    ensures { Put out.old 0 (end_to_end size pool.now (take n packets)) result out.new }
+// Copies the packets out of their places to the front of out, end to end.
+fn copy(packets: &[Waiting], pool: &[u8], size: usize, out: &mut [u8]) -> usize
+    requires { CanCopy packets.now (length packets.now) size pool.now out.old }
+    ensures { Put out.old 0 (end_to_end size pool.now packets.now) result out.new }
 {
     let mut at: usize = 0;
-    for i in 0..n {
-        let w = packets[i];
+    for w in packets {
         at = copy_one(w.place, w.len, pool, size, out, at);
     }
     at
@@ -154,25 +146,24 @@ struct Left {
 }
 
 // Of the first n that wait, all but the first packets of a link, up to max.
-fn packets_left(waiting: [Waiting; 32], n: usize, handle: u16, max: usize) -> Left
+fn packets_left(waiting: &[Waiting; 32], n: usize, handle: u16, max: usize) -> Left
     requires { n ≤ 32 }
-    ensures { Leaves waiting n handle max result.waiting result.count }
+    ensures { Leaves waiting.now n handle max result.waiting result.count }
 {
-    let mut left = waiting;
-    let mut k: usize = 0;
-    let mut taken: usize = 0;
-    for i in 0..n {
-        let w = waiting[i];
+    let mut left = *waiting;
+    let mut kept = 0;
+    let mut taken = 0;
+    for w in &waiting[..n] {
         if takes(w.handle, handle, taken, max) {
             taken += 1;
         } else {
-            left[k] = w;
-            k += 1;
+            left[kept] = *w;
+            kept += 1;
         }
     }
     Left {
         waiting: left,
-        count: k,
+        count: kept,
     }
 }
 
@@ -190,21 +181,18 @@ pub fn take(
     requires { PoolFits links size places pool.now }
     ensures { Takes links size places handle max pool.now out.old result out.new }
 {
-    let waiting = links.waiting;
     let n = links.waiting_count;
-    let c = choose(waiting, n, handle, max);
-    if out.len() < c.len {
+    let chosen = choose(&links.waiting, n, handle, max);
+    if out.len() < chosen.len {
         return None;
     }
-    let packets = c.packets;
-    copy(packets, c.count, pool, size, out);
-    let left = packets_left(waiting, n, handle, max);
-    let wait_on = left.waiting;
+    copy(&chosen.packets[..chosen.count], pool, size, out);
+    let Left { waiting, count } = packets_left(&links.waiting, n, handle, max);
     Some(Taken {
-        waiting: wait_on,
-        waiting_count: left.count,
-        in_flight: links.in_flight + (c.count as u16),
-        count: c.count,
-        len: c.len,
+        waiting,
+        waiting_count: count,
+        in_flight: links.in_flight + chosen.count as u16,
+        count: chosen.count,
+        len: chosen.len,
     })
 }

@@ -1,27 +1,29 @@
--- `transmit::choose` meets its contract: after i turns the packets to be taken of the first i are gathered and measured.
-use mathlib.Core.Path.{◌≡◌}
-use native.Mathlib.Omega.{arith}
-use lib.ListN.{length}
-use borrow.Author.Rules.{rules}
-use Rattle.lists.proofs.Copying.{length_of_map}
+-- `transmit::choose` meets its contract.
+use Rattle.std.proofs.Common.{ap, ◌∙◌, ◌<◌, arith}
+use lib.Seq.{get_or-take, length-take-le}
+use Rattle.links.specs.declared.Waiting.{Waiting}
 use Rattle.transmit.proofs.Choosing.{choose_none, choose_more, choose_same}
 use Rattle.transmit.proofs.choose.Goals.{else-takes, then-takes}
 use Rattle.transmit.proofs.choose.Goals as goal
 
-pub loop-i-init : goal.loop-i-init
-loop-i-init c =
-    let long : length c.args.waiting ≡ 32 = search (rules, length_of_map) in
-    choose_none _ _ _ _ (omega arith)
+pub loop-w-init : goal.loop-w-init
+loop-w-init c = choose_none _ _ _ _ (omega arith)
 
-pub loop-i-preserved : goal.loop-i-preserved
-loop-i-preserved c =
-    let l = c.loop-i in
-    let more = c.loop-i-test.true in
-    let f = c.takes in
+pub loop-w-preserved : goal.loop-w-preserved
+loop-w-preserved c =
+    let a = c.args in
+    let l = c.loop-w in
+    let long = length-take-le a.n a.waiting.now (omega arith) in
+    let more : l.w-index < a.n = omega arith in
+    let d : Waiting = record { handle = 0; len = 0; place = 0 } in
+    let e = get_or-take a.n a.waiting.now l.w-index d more in
+    let tested = rw e at c.takes.ensures in
+    let read = c.from-octets.ensures ∙ ap (λ (x : Waiting). x.len) e in
+    let small : c.from-octets.result < 65536 = omega arith in
     elim c.if-takes.branch [
       | then-takes w ↦
-          rw (w.packets-is, w.count-is, w.len-is)
-          (choose_more _ l.invariant more f.ensures w.if-takes.true (search rules))
+          rw (w.packets-is, w.count-is, w.len-is, read, e)
+          (choose_more d l.invariant more tested w.if-takes.true (rw (← read) small))
       | else-takes w ↦
-          rw (w.packets-is, w.count-is, w.len-is) (choose_same _ l.invariant more f.ensures w.if-takes.false)
+          rw (w.packets-is, w.count-is, w.len-is) (choose_same _ l.invariant more tested w.if-takes.false)
     ]

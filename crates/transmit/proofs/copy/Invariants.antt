@@ -1,6 +1,6 @@
--- `transmit::copy` meets its contract: after i turns the octets of the first i packets are written.
+-- `transmit::copy` meets its contract: the octets of the packets looked at are written.
 use Rattle.transmit.proofs.Octets.{Copying}
 use Rattle.transmit.proofs.copy.Given as goal
 
-abbrev pub invariant-loop-i : goal.invariant-loop-i
-invariant-loop-i l = Copying l.packets l.n l.size l.pool l.initial.out l.out l.at l.i
+abbrev pub invariant-loop-w : goal.invariant-loop-w
+invariant-loop-w l = Copying l.packets l.size l.pool l.initial.out l.out l.at l.w-index

@@ -1,7 +1,6 @@
 -- `transmit::enqueue` meets its contract, whichever free place it is given.
-use mathlib.Core.Path.{◌≡◌}
-use lib.ListN.{length}
-use borrow.Author.Rules.{rules}
+use Rattle.std.proofs.Common.{◌≡◌, length, arith, rules}
+use lib.Seq.{length-take-le}
 use Rattle.lists.proofs.Copying.{length_of_map}
 use Rattle.transmit.proofs.Fitting.{all_below}
 use Rattle.transmit.proofs.Queueing.{queued}
@@ -9,15 +8,15 @@ use Rattle.transmit.proofs.enqueue.Goals as goal
 
 pub free_place-place-requires : goal.free_place-place-requires
 free_place-place-requires c =
+    let s = c.args.links in
     let fits = c.requires.fits in
-    record {
-      few = fits.held.few_waiting;
-      placed = all_below c.args.places c.args.size _ fits.most fits.held.fit;
-    }
+    let long : length s.waiting ≡ 32 = search (rules, length_of_map, c.well_formed) in
+    let n = length-take-le s.waiting_count s.waiting (omega (arith, fits.held.few_waiting)) in
+    record { few = omega (arith, fits.held.few_waiting); placed = all_below c.args.places c.args.size _ fits.most fits.held.fit }
 
 pub returns : goal.returns
 returns c =
-    let a = c.args in
-    let f = c.free_place-place in
-    let long : length a.links.waiting ≡ 32 = search (rules, length_of_map, c.well_formed) in
-    queued c.requires f.ensures long c.put.ensures
+    let s = c.args.links in
+    let long : length s.waiting ≡ 32 = search (rules, length_of_map, c.well_formed) in
+    let n = length-take-le s.waiting_count s.waiting (omega (arith, c.requires.fits.held.few_waiting)) in
+    queued c.requires (rw n at c.free_place-place.ensures) long c.put.ensures

@@ -1,25 +1,17 @@
--- `transmit::lowest_free` meets its contract: the first place without a mark has not been met before `place`.
-use native.Mathlib.Omega.{arith}
-use borrow.Author.Tests.{eq-eqb, ne_eqb}
-use Rattle.lists.proofs.Search.{first_here, first_skip, first_end}
+-- `transmit::lowest_free` meets its contract.
+use Rattle.std.proofs.Common.{◌≡◌, ℕ, Option, length, ap, ◌∙◌, rules, tests}
+use Rattle.std.specs.List.{position}
+use Rattle.std.proofs.lemmas.Iterator.{YieldsList-from_slice}
+use Rattle.std.proofs.lemmas.Iterator.Search.{position_from_yields_List}
+use Rattle.std.specs.Option.{unwrap_or}
+use Rattle.lists.proofs.Search.{position_or}
 use Rattle.transmit.specs.Steps.{is_free}
 use Rattle.transmit.proofs.lowest_free.Goals as goal
 
-pub returns-then-marks-place-eq0 : goal.returns-then-marks-place-eq0
-returns-then-marks-place-eq0 c =
-    let l = c.loop-place in
-    let a = c.args in
-    first_here a.marks.now a.n is_free l.place 0 l.invariant.1 (eq-eqb _ _ c.if-marks-place-eq0.true) (omega arith) (omega arith)
-
-pub loop-place-preserved : goal.loop-place-preserved
-loop-place-preserved c =
-    let l = c.loop-place in
-    let a = c.args in
-    let taken = ne_eqb _ _ c.if-marks-place-eq0.false in
-    (omega arith, first_skip a.marks.now a.n is_free l.place 0 l.invariant.1 taken (omega arith) (omega arith))
-
 pub returns : goal.returns
 returns c =
-    let l = c.loop-place in
-    let a = c.args in
-    first_end a.marks.now a.n is_free l.place l.invariant.1 (omega arith)
+    let marks = c.args.marks.now in
+    let found : c.position.result ≡ position is_free marks =
+    position_from_yields_List is_free _ _ c.position.result c.position.ensures.ran (YieldsList-from_slice marks (cc))
+    (λ x b q k. search (rules, tests)) in
+    c.unwrap_or.ensures ∙ ap (λ (o : Option ℕ). unwrap_or o (length marks)) found ∙ position_or is_free marks

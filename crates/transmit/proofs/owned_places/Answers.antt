@@ -1,26 +1,22 @@
--- `transmit::owned_places` meets its contract: after i turns the places of the first i packets are marked.
-use mathlib.Core.Path.{◌≡◌}
-use native.Mathlib.Omega.{arith}
-use lib.ListN.{length}
-use borrow.Author.Rules.{rules}
-use Rattle.lists.proofs.Copying.{length_of_map}
+-- `transmit::owned_places` meets its contract.
+use lib.Seq.{take_all}
 use Rattle.transmit.proofs.Places.{marks_none, marks_more, marked_below}
 use Rattle.transmit.proofs.owned_places.Goals as goal
 
-pub loop-i-init : goal.loop-i-init
-loop-i-init c = (omega arith, marks_none)
+pub loop-w-init : goal.loop-w-init
+loop-w-init c = marks_none
 
-pub bounds-marks-place : goal.bounds-marks-place
-bounds-marks-place c =
-    let l = c.loop-i in
-    let long : length c.args.waiting ≡ 32 = search (rules, length_of_map) in
-    marked_below c.args.waiting c.args.n l.i _ c.requires (omega arith) (omega arith)
+pub bounds-marks-from : goal.bounds-marks-from
+bounds-marks-from c = rw c.from.ensures (marked_below c.args.waiting.now c.loop-w.w-index _ c.requires c.loop-w-test.true)
 
-pub loop-i-preserved : goal.loop-i-preserved
-loop-i-preserved c =
-    let l = c.loop-i in
-    let long : length c.args.waiting ≡ 32 = search (rules, length_of_map) in (
-      omega arith,
-      marks_more c.args.waiting l.marks l.i _ l.invariant.1
-          (marked_below c.args.waiting c.args.n l.i _ c.requires (omega arith) (omega arith)) (omega (arith, c.requires.few)),
-    )
+pub loop-w-preserved : goal.loop-w-preserved
+loop-w-preserved c =
+    let xs = c.args.waiting.now in
+    let i = c.loop-w.w-index in
+    rw c.from.ensures
+    (marks_more xs c.loop-w.marks i _ c.loop-w.invariant (marked_below xs i _ c.requires c.loop-w-test.true) c.loop-w-test.true)
+
+pub returns : goal.returns
+returns c =
+    let whole = take_all c.loop-w.w-index c.args.waiting.now c.loop-w-test.false in
+    rw whole at c.loop-w.invariant

@@ -1,8 +1,7 @@
--- `transmit::owned_places` meets its contract: after i turns the places of the first i packets are marked.
-use Prim.Native.Nat.{◌≤◌}
-use lib.ListN.{take}
+-- `transmit::owned_places` meets its contract: the places of the packets looked at are marked.
+use Rattle.std.proofs.Common.{take}
 use Rattle.transmit.specs.Steps.{Marks}
 use Rattle.transmit.proofs.owned_places.Given as goal
 
-abbrev pub invariant-loop-i : goal.invariant-loop-i
-invariant-loop-i l = (l.i ≤ l.n) × Marks (take l.i l.waiting) l.marks
+abbrev pub invariant-loop-w : goal.invariant-loop-w
+invariant-loop-w l = Marks (take l.w-index l.waiting) l.marks

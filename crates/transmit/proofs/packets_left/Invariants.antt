@@ -1,6 +1,6 @@
--- `transmit::packets_left` meets its contract: after i turns what is left of the first i packets is kept.
+-- `transmit::packets_left` meets its contract: what is left of the packets looked at is kept.
 use Rattle.transmit.proofs.Choosing.{Removing}
 use Rattle.transmit.proofs.packets_left.Given as goal
 
-abbrev pub invariant-loop-i : goal.invariant-loop-i
-invariant-loop-i l = Removing l.waiting l.n l.handle l.max l.left l.k l.taken l.i
+abbrev pub invariant-loop-w : goal.invariant-loop-w
+invariant-loop-w l = Removing l.waiting l.n l.handle l.max l.left l.kept l.taken l.w-index

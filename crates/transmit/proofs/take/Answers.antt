@@ -2,15 +2,13 @@
 use Rattle.transmit.proofs.Taking.{take_refused, take_copies, take_done}
 use Rattle.transmit.proofs.take.Goals as goal
 
-pub returns-then-out-c : goal.returns-then-out-c
-returns-then-out-c c =
-    take_refused c.requires c.choose-c.ensures _ c.if-out-c.true
+pub returns-then-out-chosen : goal.returns-then-out-chosen
+returns-then-out-chosen c = take_refused c.requires c.choose-chosen.ensures _ c.if-out-chosen.true
 
 pub copy-requires : goal.copy-requires
 copy-requires c =
-    take_copies c.requires c.choose-c.ensures _ c.if-out-c.false
+    rw c.choose-chosen.ensures.counted (take_copies c.requires c.choose-chosen.ensures _ c.if-out-chosen.false)
 
 pub returns : goal.returns
 returns c =
-    take_done c.requires c.choose-c.ensures c.packets_left-left.ensures
-    c.if-out-c.false c.copy.ensures
+    take_done c.requires c.choose-chosen.ensures c.packets_left-count.ensures c.if-out-chosen.false c.copy.ensures

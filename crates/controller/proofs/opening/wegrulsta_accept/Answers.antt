@@ -40,7 +40,7 @@ returns-then-not-can_open c =
 pub accept_connection-r-requires : goal.accept_connection-r-requires
 accept_connection-r-requires c =
     let yes = events_asked c.args.profile c.args.s c.args.out.now c.holds-held.ensures c.in_default.ensures in
-    (yes.held.links.few_links, yes.held.links.few_waiting, sym c.can_open.ensures ∙ c.if-not-can_open.false)
+    ((yes.held.links.few_links, yes.held.links.few_waiting), sym c.can_open.ensures ∙ c.if-not-can_open.false)
 
 pub heard-requires : goal.heard-requires
 heard-requires c =

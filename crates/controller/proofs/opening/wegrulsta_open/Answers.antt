@@ -37,7 +37,7 @@ returns-then-not-can_open c =
 pub open_connection-r-requires : goal.open_connection-r-requires
 open_connection-r-requires c =
     let yes = state_asked c.args.profile c.args.s c.holds-held.ensures c.in_default.ensures in
-    (yes.held.links.few_links, yes.held.links.few_waiting, sym c.can_open.ensures ∙ c.if-not-can_open.false)
+    ((yes.held.links.few_links, yes.held.links.few_waiting), sym c.can_open.ensures ∙ c.if-not-can_open.false)
 
 pub returns : goal.returns
 unfolding first_no

@@ -12,5 +12,5 @@ returns c k held =
     let t = c.args.timing in
     let new = new_connection c.args.handle t.interval t.latency t.timeout in
     gives_links (opened_last new) c.open_connection-accepted.ensures.viewed
-    (opened_holds c.args.s.links held.links new c.requires.2 c.open_connection-accepted.ensures.lists)
+    (opened_holds c.args.s.links held.links new c.requires.1 c.open_connection-accepted.ensures.lists)
     c.connection_complete.ensures (λ size pool. search rules) (off_holds held)

@@ -13,5 +13,5 @@ returns c k held =
     let t = c.args.timing in
     let new = new_connection c.args.handle t.interval t.latency t.timeout in
     gives_links (opened_last new) c.open_connection.ensures.viewed
-    (opened_holds c.args.s.links held.links new c.requires.2 c.open_connection.ensures.lists)
+    (opened_holds c.args.s.links held.links new c.requires.1 c.open_connection.ensures.lists)
     (answered c.silent.ensures refl) (λ size pool. refl) held
