@@ -1,3 +1,4 @@
 -- The laws of `dispatch`.
 pub mod Choosing
 pub mod Halves
+pub mod Picking
