@@ -7,6 +7,9 @@ ghost use Rattle.controller.specs.Asked.{refusal_number, about_state, about_even
 use crate::refusal::Refusal;
 use profile::ControllerRow;
 
+// What a question answers that refuses nothing.
+const PASSED: Result<(), Refusal> = Ok(());
+
 // 1: is the profile within its limits? 3: does the state hold together?
 #[tactic(auto, unfolding(calls::specs::Calls::first_no))]
 pub fn about_state(profile: ControllerRow, held: bool) -> Result<(), Refusal>
@@ -18,7 +21,7 @@ pub fn about_state(profile: ControllerRow, held: bool) -> Result<(), Refusal>
     if !held {
         return Err(Refusal::State);
     }
-    Ok(())
+    PASSED
 }
 
 // 1, 3, and 5: has the event buffer 71 octets or more?
@@ -30,7 +33,7 @@ pub fn about_events(profile: ControllerRow, held: bool, room: usize) -> Result<(
     if room < 71 {
         return Err(Refusal::EventRoom);
     }
-    Ok(())
+    PASSED
 }
 
 // 4: has the pool acl_count times acl_len + 5 octets or more?
@@ -51,7 +54,7 @@ pub fn about_pool(profile: ControllerRow, held: bool, pool: usize) -> Result<(),
     if !pool_fits(profile, pool) {
         return Err(Refusal::Pool);
     }
-    Ok(())
+    PASSED
 }
 
 // 1, 2: are the rows' slices equally long, at most 256, answers at most 2?, 3, 4 and 5.
@@ -82,5 +85,5 @@ pub fn about_packet(
     if room < 71 {
         return Err(Refusal::EventRoom);
     }
-    Ok(())
+    PASSED
 }
