@@ -16,13 +16,17 @@ pub record Keys (w₀ w : List (List ℕ)) (i : ℕ) : Type 0 where
   pub made : take i w ≡ extend (take 4 w₀) (i - 4)
 
 -- the next word, of the words so far
-next : (w : List (List ℕ)) (i : ℕ) → 4 ≤ i → add_word (get_or w (i - 4) []) (key_part (get_or w (i - 1) []) i) ≡ next_word (take i w) i
+next : (w : List (List ℕ)) (i : ℕ) → 4 ≤ i
+    → add_word (get_or w (i - 4) []) (key_part (get_or w (i - 1) []) i) ≡ next_word (take i w) i
 unfolding next_word
 next w i h =
-    ap₂ (λ (a b : List ℕ). add_word a (key_part b i)) (sym (get_or-take i w (i - 4) [] (omega arith))) (sym (get_or-take i w (i - 1) [] (omega arith)))
+    ap₂ (λ (a b : List ℕ). add_word a (key_part b i))
+    (sym (get_or-take i w (i - 4) [] (omega arith)))
+    (sym (get_or-take i w (i - 1) [] (omega arith)))
 
 -- the definition's next step, at i
-extended : (w : List (List ℕ)) (i : ℕ) → 4 ≤ i → extend w (i + 1 - 4) ≡ extend w (i - 4) ++ (next_word (extend w (i - 4)) i ∷ [])
+extended : (w : List (List ℕ)) (i : ℕ) → 4 ≤ i
+    → extend w (i + 1 - 4) ≡ extend w (i - 4) ++ (next_word (extend w (i - 4)) i ∷ [])
 extended w i h =
     let p : i + 1 - 4 ≡ suc (i - 4) = omega arith in
     let q : i - 4 + 4 ≡ i = omega arith in

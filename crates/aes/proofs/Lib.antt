@@ -1,6 +1,6 @@
 -- The laws that the functions' proofs cite, and what is shown of the definitions.
 pub mod Four
-pub mod Sbox
+pub mod SboxTable
 pub mod Inverse
 pub mod Rcon
 pub mod Keys

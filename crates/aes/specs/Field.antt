@@ -38,7 +38,8 @@ bit b i = b / 2 ^ i % 2
 
 -- 5.1.1: bit i of the affine map
 abbrev pub affine_bit : ℕ → ℕ → ℕ
-affine_bit b i = (bit b i + bit b ((i + 4) % 8) + bit b ((i + 5) % 8) + bit b ((i + 6) % 8) + bit b ((i + 7) % 8) + bit 0x63 i) % 2
+affine_bit b i =
+    (bit b i + bit b ((i + 4) % 8) + bit b ((i + 5) % 8) + bit b ((i + 6) % 8) + bit b ((i + 7) % 8) + bit 0x63 i) % 2
 
 -- the number whose bit i is f i, for i below n
 abbrev pub from_bits : ℕ → (ℕ → ℕ) → ℕ
@@ -53,6 +54,6 @@ affine b = from_bits 8 (affine_bit b)
 unfoldable pub sbox : ℕ → ℕ
 sbox b = affine (inverse b)
 
--- no part of the standard: a table of the S-box's values, as the crate's own functions ask of the table that they are lent
+-- no part of the standard: a table of the S-box's values, which the code's type `Sbox` holds
 pub record SboxTable (table : List ℕ) : Type 0 where
   pub entry : (k : ℕ) → k < 256 → get_or table k 0 ≡ sbox k

@@ -1,28 +1,32 @@
 // AES-128 by FIPS 197: the cipher and its key expansion. specs/Field.antt and specs/Aes.antt say what they are.
 //
-// The two exported functions bind the S-box once and lend it down.
+// The two exported functions make the S-box once and lend it down. Rows are put together by literals of four: a closure that
+// gives a row needs a clause of its own, which is longer.
 #![tactic(auto)]
 
+mod sbox;
 mod tables;
 
 ghost use Rattle.std.specs.Prelude.{◌≡◌, ◌<◌, get_or};
-ghost use Rattle.aes.specs.Field.{xtime, sbox, SboxTable};
-ghost use Rattle.aes.specs.Aes.{four, mix, state_of, octets_of, sub_bytes, shift_rows, mix_columns, add_round_key, rot_word, sub_word, add_word, rcon, key_part, key_expansion, round_key, round, aes128};
+ghost use Rattle.aes.specs.Field.{xtime};
+ghost use Rattle.aes.specs.Aes.{four, mix, state_of, octets_of, shift_rows, mix_columns, add_round_key, round_key, round};
+ghost use Rattle.aes.specs.Aes.{rot_word, add_word, rcon, key_part, key_expansion, aes128};
 
-use tables::{RCON, SBOX};
+use sbox::Sbox;
+use tables::RCON;
 
 // The words of the key schedule, four for each AddRoundKey.
 pub fn key_expansion(key: [u8; 16]) -> [[u8; 4]; 44]
     ensures { result ≡ key_expansion key }
 {
-    let table = sbox_table();
+    let sbox = Sbox::new();
     let mut w = [[0u8; 4]; 44];
     w[0] = [key[0], key[1], key[2], key[3]];
     w[1] = [key[4], key[5], key[6], key[7]];
     w[2] = [key[8], key[9], key[10], key[11]];
     w[3] = [key[12], key[13], key[14], key[15]];
     for i in 4..44 {
-        w[i] = add_word(w[i - 4], key_part(&table, w[i - 1], i));
+        w[i] = add_word(w[i - 4], key_part(&sbox, w[i - 1], i));
     }
     w
 }
@@ -31,24 +35,26 @@ pub fn key_expansion(key: [u8; 16]) -> [[u8; 4]; 44]
 pub fn encrypt_128(key: [u8; 16], block: [u8; 16]) -> [u8; 16]
     ensures { result ≡ aes128 key block }
 {
-    let table = sbox_table();
+    let sbox = Sbox::new();
     let w = key_expansion(key);
     let mut s = add_round_key(state_of(block), round_key(&w, 0));
     for i in 1..10 {
-        let t = one_round(&table, s, round_key(&w, i));
+        // Bound first: the check does not cover a call whose array goes straight into a variable that is lent.
+        let t = one_round(&sbox, s, round_key(&w, i));
         s = t;
     }
-    octets_of(add_round_key(shift_rows(sub_bytes(&table, s)), round_key(&w, 10)))
+    octets_of(add_round_key(shift_rows(sbox.bytes(s)), round_key(&w, 10)))
 }
 
-fn one_round(table: &[u8; 256], s: [[u8; 4]; 4], k: [[u8; 4]; 4]) -> [[u8; 4]; 4]
-    requires { SboxTable table.now }
+#[tactic(auto, unfolding(crate::specs::Aes::round))]
+fn one_round(sbox: &Sbox, s: [[u8; 4]; 4], k: [[u8; 4]; 4]) -> [[u8; 4]; 4]
     ensures { result ≡ round s k }
 {
-    add_round_key(mix_columns(shift_rows(sub_bytes(table, s))), k)
+    add_round_key(mix_columns(shift_rows(sbox.bytes(s))), k)
 }
 
 // The four words of round i.
+#[tactic(auto, unfolding(crate::specs::Aes::round_key))]
 fn round_key(w: &[[u8; 4]; 44], i: usize) -> [[u8; 4]; 4]
     requires { i < 11 }
     ensures { result ≡ round_key w.now i }
@@ -78,44 +84,6 @@ fn octets_of(s: [[u8; 4]; 4]) -> [u8; 16]
     ]
 }
 
-// The S-box, to be bound once and lent: to index a constant is to copy the whole of it.
-fn sbox_table() -> [u8; 256]
-    ensures { SboxTable result }
-{
-    SBOX
-}
-
-fn sub_byte(table: &[u8; 256], b: u8) -> u8
-    requires { SboxTable table.now }
-    ensures { result ≡ sbox b }
-{
-    table[b as usize]
-}
-
-fn sub_word(table: &[u8; 256], a: [u8; 4]) -> [u8; 4]
-    requires { SboxTable table.now }
-    ensures { result ≡ sub_word a }
-{
-    [
-        sub_byte(table, a[0]),
-        sub_byte(table, a[1]),
-        sub_byte(table, a[2]),
-        sub_byte(table, a[3]),
-    ]
-}
-
-fn sub_bytes(table: &[u8; 256], s: [[u8; 4]; 4]) -> [[u8; 4]; 4]
-    requires { SboxTable table.now }
-    ensures { result ≡ sub_bytes s }
-{
-    [
-        sub_word(table, s[0]),
-        sub_word(table, s[1]),
-        sub_word(table, s[2]),
-        sub_word(table, s[3]),
-    ]
-}
-
 fn shift_rows(s: [[u8; 4]; 4]) -> [[u8; 4]; 4]
     ensures { result ≡ shift_rows s }
 {
@@ -129,12 +97,14 @@ fn shift_rows(s: [[u8; 4]; 4]) -> [[u8; 4]; 4]
 }
 
 // The octet times x.
+#[tactic(auto, unfolding(crate::specs::Field::xtime))]
 fn times_x(b: u8) -> u8
     ensures { result ≡ xtime b }
 {
     if b < 128 { b << 1 } else { 0x1b ^ (b << 1) }
 }
 
+#[tactic(auto, unfolding(crate::specs::Aes::mix))]
 fn mix_octet(a: u8, b: u8, c: u8, d: u8) -> u8
     ensures { result ≡ mix a b c d }
 {
@@ -145,14 +115,10 @@ fn mix_octet(a: u8, b: u8, c: u8, d: u8) -> u8
 fn mix_row(a: [u8; 4], b: [u8; 4], c: [u8; 4], d: [u8; 4]) -> [u8; 4]
     ensures { result ≡ four (λ i. mix (get_or a i 0) (get_or b i 0) (get_or c i 0) (get_or d i 0)) }
 {
-    [
-        mix_octet(a[0], b[0], c[0], d[0]),
-        mix_octet(a[1], b[1], c[1], d[1]),
-        mix_octet(a[2], b[2], c[2], d[2]),
-        mix_octet(a[3], b[3], c[3], d[3]),
-    ]
+    std::array::from_fn(|i| mix_octet(a[i], b[i], c[i], d[i]))
 }
 
+#[tactic(auto, using(crate::proofs::Four::each))]
 fn mix_columns(s: [[u8; 4]; 4]) -> [[u8; 4]; 4]
     ensures { result ≡ mix_columns s }
 {
@@ -164,6 +130,7 @@ fn mix_columns(s: [[u8; 4]; 4]) -> [[u8; 4]; 4]
     ]
 }
 
+#[tactic(auto, using(crate::proofs::Four::each))]
 fn add_round_key(s: [[u8; 4]; 4], k: [[u8; 4]; 4]) -> [[u8; 4]; 4]
     ensures { result ≡ add_round_key s k }
 {
@@ -179,7 +146,7 @@ fn add_round_key(s: [[u8; 4]; 4], k: [[u8; 4]; 4]) -> [[u8; 4]; 4]
 fn add_word(a: [u8; 4], b: [u8; 4]) -> [u8; 4]
     ensures { result ≡ add_word a b }
 {
-    [a[0] ^ b[0], a[1] ^ b[1], a[2] ^ b[2], a[3] ^ b[3]]
+    std::array::from_fn(|i| a[i] ^ b[i])
 }
 
 fn rot_word(a: [u8; 4]) -> [u8; 4]
@@ -188,6 +155,7 @@ fn rot_word(a: [u8; 4]) -> [u8; 4]
     [a[1], a[2], a[3], a[0]]
 }
 
+#[tactic(auto, using(crate::proofs::Rcon::rule))]
 fn round_constant(i: usize) -> [u8; 4]
     requires { i < 11 }
     ensures { result ≡ rcon i }
@@ -196,12 +164,13 @@ fn round_constant(i: usize) -> [u8; 4]
 }
 
 // What is added to word i - 4 to give word i; temp is word i - 1.
-fn key_part(table: &[u8; 256], temp: [u8; 4], i: usize) -> [u8; 4]
-    requires { (i < 44) × SboxTable table.now }
+#[tactic(auto, unfolding(crate::specs::Aes::key_part))]
+fn key_part(sbox: &Sbox, temp: [u8; 4], i: usize) -> [u8; 4]
+    requires { i < 44 }
     ensures { result ≡ key_part temp i }
 {
     if i % 4 == 0 {
-        add_word(sub_word(table, rot_word(temp)), round_constant(i / 4))
+        add_word(sbox.word(rot_word(temp)), round_constant(i / 4))
     } else {
         temp
     }

@@ -19,4 +19,4 @@ returns c =
     c.octets_of.ensures
     ∙ ap octets_of
     (c.add_round_key.ensures
-    ∙ ap₂ add_round_key (c.shift_rows.ensures ∙ ap shift_rows (c.sub_bytes.ensures ∙ ap sub_bytes nine)) last)
+    ∙ ap₂ add_round_key (c.shift_rows.ensures ∙ ap shift_rows (c.bytes.ensures ∙ ap sub_bytes nine)) last)
