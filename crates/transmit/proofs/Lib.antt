@@ -1,7 +1,7 @@
 -- The laws of queueing and taking packets.
 pub mod Fitting
 pub mod Places
-pub mod Choosing
+pub mod Parting
 pub mod Octets
 pub mod Queueing
 pub mod Taking

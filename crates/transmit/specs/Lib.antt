@@ -1,3 +1,4 @@
 -- The definitions of queueing and taking packets.
 pub mod Transmit
 pub mod Steps
+pub mod Queue

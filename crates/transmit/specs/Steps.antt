@@ -1,6 +1,6 @@
 -- What the steps of queueing and of taking do, on the list of the waiting packets: for the contracts of the functions of this
 -- crate that no other crate calls.
-use Rattle.std.specs.Prelude.{◌≡◌, ℕ, ◌+◌, ◌*◌, ◌≤◌, Bool, true, false, cond, eqb, leb, ltb, length, take, get_or, set}
+use Rattle.std.specs.Prelude.{◌≡◌, ℕ, ◌+◌, ◌*◌, ◌≤◌, Bool, true, false, cond, eqb, leb, ltb, length, get_or, set}
 use mathlib.Core.List.{List, [], ◌∷◌, map, flatten}
 use Rattle.lists.specs.Lists.{any, all, keyed, taken, leaving, read_at}
 use Rattle.links.specs.Links.{waits_for}
@@ -44,13 +44,11 @@ unfoldable pub lengths : List Waiting → ℕ
 lengths [] = 0
 lengths (w ∷ l) = w.len + lengths l
 
--- the packets to be taken, of the first n that wait, stand at the front of `packets`
-pub record Chose (waiting : List Waiting) (n handle most : ℕ) (packets : List Waiting) (count len : ℕ) : Type 0 where
-  pub waited : length (take n waiting) ≡ n
-  pub first : take count packets ≡ taken (waits_for handle) most (take n waiting)
-  pub few : count ≤ n
-  pub counted : length (take count packets) ≡ count
-  pub measured : len ≡ lengths (take count packets)
+-- the packets that wait, parted: the first of the link up to the most, how many octets they have, and those that wait on
+pub record Parts (waiting : List Waiting) (handle most : ℕ) (first : List Waiting) (len : ℕ) (rest : List Waiting) : Type 0 where
+  pub gone : first ≡ taken (waits_for handle) most waiting
+  pub measured : len ≡ lengths first
+  pub stays : rest ≡ leaving (waits_for handle) most waiting
 
 -- the octets of the packets, one after the other
 unfoldable pub end_to_end : ℕ → List ℕ → List Waiting → List ℕ
@@ -65,8 +63,3 @@ pub record CanCopy (l : List Waiting) (n size : ℕ) (pool out : List ℕ) : Typ
   pub few : n ≤ 32
   pub within : all (lies_in size pool) l ≡ true
   pub room : length (end_to_end size pool l) ≤ length out
-
--- the packets that wait on, of the first n that wait, stand at the front of `left`
-pub record Leaves (waiting : List Waiting) (n handle most : ℕ) (left : List Waiting) (count : ℕ) : Type 0 where
-  pub queue : take count left ≡ leaving (waits_for handle) most (take n waiting)
-  pub counted : length (take count left) ≡ count

@@ -4,13 +4,17 @@
 // (docs/SPEED.md). Contracts cite `specs/Transmit.antt`, those of the steps `specs/Steps.antt`.
 #![tactic(auto)]
 
-ghost use Rattle.std.specs.Prelude.{◌≡◌, ◌&&◌, ◌+◌, ◌*◌, ◌≤◌, eqb, ltb, length, take};
+ghost use Rattle.std.specs.Prelude.{◌≡◌, ◌+◌, ◌*◌, ◌≤◌, length, take};
 ghost use Rattle.lists.specs.Lists.{first_at, read_at};
 ghost use Rattle.octets.specs.Octets.{Put};
 ghost use Rattle.transmit.specs.Transmit.{CanQueue, Queued, PoolFits, Takes};
-ghost use Rattle.transmit.specs.Steps.{CanMark, Marks, is_free, FreePlace, Chose, CanCopy, end_to_end, Leaves};
+ghost use Rattle.transmit.specs.Queue.{packets};
+ghost use Rattle.transmit.specs.Steps.{CanMark, Marks, is_free, FreePlace, Parts, CanCopy, end_to_end};
+
+mod queue;
 
 use links::{Links, Waiting};
+use queue::Queue;
 
 // Which of the 32 places the waiting packets own: 1 at those, 0 at the others.
 fn owned_places(waiting: &[Waiting]) -> [u8; 32]
@@ -79,42 +83,31 @@ pub struct Taken {
     pub len: usize,
 }
 
-// The waiting packets to be taken, at the front of `packets`, how many they are and how many octets they have together.
+// The packets that wait, parted: those to be taken, how many octets they have together, and those that wait on.
 #[derive(Clone, Copy)]
-struct Chosen {
-    packets: [Waiting; 32],
-    count: usize,
+struct Parted {
+    taken: Queue,
     len: usize,
+    left: Queue,
 }
 
-// Whether a packet of the link `own` is taken for the link `handle`, where `taken` of at most max are taken already.
-fn takes(own: u16, handle: u16, taken: usize, max: usize) -> bool
-    ensures { result ≡ (ltb taken max && eqb own handle) }
+// The first packets of a link, up to max, and the others.
+fn part(waiting: &[Waiting], handle: u16, max: usize) -> Parted
+    requires { length waiting.now ≤ 32 }
+    ensures { Parts waiting.now handle max (packets result.taken) result.len (packets result.left) }
 {
-    taken < max && own == handle
-}
-
-// The first packets of a link, up to max, of the first n that wait.
-fn choose(waiting: &[Waiting; 32], n: usize, handle: u16, max: usize) -> Chosen
-    requires { n ≤ 32 }
-    ensures { Chose waiting.now n handle max result.packets result.count result.len }
-{
-    let mut packets = *waiting;
-    let mut count = 0;
+    let mut taken = Queue::new();
     let mut len = 0;
-    for w in &waiting[..n] {
-        let octets = usize::from(w.len);
-        if takes(w.handle, handle, count, max) {
-            packets[count] = *w;
-            count += 1;
-            len += octets;
+    let mut left = Queue::new();
+    for w in waiting {
+        if w.handle == handle && usize::from(taken.len()) < max {
+            taken.push(*w);
+            len += usize::from(w.len);
+        } else {
+            left.push(*w);
         }
     }
-    Chosen {
-        packets,
-        count,
-        len,
-    }
+    Parted { taken, len, left }
 }
 
 // Copies the packet of len octets at a place of the pool into out from index at, and gives the index after it.
@@ -138,35 +131,6 @@ fn copy(packets: &[Waiting], pool: &[u8], size: usize, out: &mut [u8]) -> usize
     at
 }
 
-// The packets that wait on, at the front of `waiting`, and how many they are.
-#[derive(Clone, Copy)]
-struct Left {
-    waiting: [Waiting; 32],
-    count: usize,
-}
-
-// Of the first n that wait, all but the first packets of a link, up to max.
-fn packets_left(waiting: &[Waiting; 32], n: usize, handle: u16, max: usize) -> Left
-    requires { n ≤ 32 }
-    ensures { Leaves waiting.now n handle max result.waiting result.count }
-{
-    let mut left = *waiting;
-    let mut kept = 0;
-    let mut taken = 0;
-    for w in &waiting[..n] {
-        if takes(w.handle, handle, taken, max) {
-            taken += 1;
-        } else {
-            left[kept] = *w;
-            kept += 1;
-        }
-    }
-    Left {
-        waiting: left,
-        count: kept,
-    }
-}
-
 // Takes up to max packets of a link, oldest first, copied end to end to the front of out. Where out can't hold them all
 // nothing changes, and there is no answer (question 7).
 pub fn take(
@@ -181,18 +145,17 @@ pub fn take(
     requires { PoolFits links size places pool.now }
     ensures { Takes links size places handle max pool.now out.old result out.new }
 {
-    let n = links.waiting_count;
-    let chosen = choose(&links.waiting, n, handle, max);
-    if out.len() < chosen.len {
+    let Parted { taken, len, left } = part(&links.waiting[..links.waiting_count], handle, max);
+    if out.len() < len {
         return None;
     }
-    copy(&chosen.packets[..chosen.count], pool, size, out);
-    let Left { waiting, count } = packets_left(&links.waiting, n, handle, max);
+    copy(taken.as_slice(), pool, size, out);
+    let count = taken.len();
     Some(Taken {
-        waiting,
-        waiting_count: count,
-        in_flight: links.in_flight + chosen.count as u16,
-        count: chosen.count,
-        len: chosen.len,
+        waiting: left.array(),
+        waiting_count: usize::from(left.len()),
+        in_flight: links.in_flight + count,
+        count: usize::from(count),
+        len,
     })
 }

@@ -2,13 +2,13 @@
 use Rattle.transmit.proofs.Taking.{take_refused, take_copies, take_done}
 use Rattle.transmit.proofs.take.Goals as goal
 
-pub returns-then-out-chosen : goal.returns-then-out-chosen
-returns-then-out-chosen c = take_refused c.requires c.choose-chosen.ensures _ c.if-out-chosen.true
+pub returns-then-out-len : goal.returns-then-out-len
+returns-then-out-len c = take_refused c.requires c.part-len.ensures _ c.if-out-len.true
 
 pub copy-requires : goal.copy-requires
-copy-requires c =
-    rw c.choose-chosen.ensures.counted (take_copies c.requires c.choose-chosen.ensures _ c.if-out-chosen.false)
+copy-requires c = rw c.as_slice.ensures (take_copies c.requires c.part-len.ensures _ c.if-out-len.false)
 
 pub returns : goal.returns
 returns c =
-    take_done c.requires c.choose-chosen.ensures c.packets_left-count.ensures c.if-out-chosen.false c.copy.ensures
+    rw (c.from.ensures, c.from-2.ensures, c.len.ensures, c.len-count.ensures)
+    (take_done c.requires c.part-len.ensures _ c.array.ensures c.if-out-len.false (rw c.as_slice.ensures at c.copy.ensures))
