@@ -1,8 +1,8 @@
 -- What a query promises: the answer of the definitions, or that of a refused query. For `queries`.
-use mathlib.Core.Path.{◌≡◌, refl, ap}
+use mathlib.Core.Path.{◌≡◌, refl, sym, ap}
 use Prim.Native.Nat.{ℕ}
 use mathlib.Core.List.{List}
-use mathlib.Core.Bool.{Bool, true, false, not}
+use mathlib.Core.Bool.{Bool, true, false}
 use native.Mathlib.Omega.{arith}
 use lib.ListN.{replicate}
 use Rattle.profile.specs.declared.ControllerRow.{ControllerRow}
@@ -10,7 +10,6 @@ use Rattle.profile.specs.Profile.{rows_fit, row_bitmap}
 use Rattle.state.specs.State.{Model, view}
 use Rattle.state.specs.Holding.{state_holds}
 use Rattle.state.specs.declared.Controller.{Controller}
-use Rattle.state.proofs.Holding.{passed, failed}
 use Rattle.calls.specs.Calls.{first_no}
 use Rattle.calls.specs.Gives.{Finds, FindsBitmap}
 use Rattle.controller.specs.declared.refusal.Refusal.{Refusal}
@@ -30,15 +29,15 @@ module _ {A : Type 0} {k : ControllerRow} {s : Controller} {sought : Model → A
   finds asked found = record { asked = rw same at asked; refused = λ p. absurd (omega arith); accepted = λ z. found }
 
 -- the bit map, where the rows do not fit and where they do
-pub finds_no_bitmap : {opcodes answers bits : List ℕ} {fits : Bool} → fits ≡ rows_fit opcodes answers bits → not fits ≡ true
+pub finds_no_bitmap : {opcodes answers bits : List ℕ} → false ≡ rows_fit opcodes answers bits
     → FindsBitmap opcodes answers bits 2 (replicate 64 0)
 unfolding first_no
-finds_no_bitmap e told = record { asked = rw (failed e told); refused = λ p. refl; accepted = λ z. absurd (omega arith) }
+finds_no_bitmap e = record { asked = rw (sym e); refused = λ p. refl; accepted = λ z. absurd (omega arith) }
 
-pub finds_bitmap : {opcodes answers bits map : List ℕ} {fits : Bool} → fits ≡ rows_fit opcodes answers bits → not fits ≡ false
-    → map ≡ row_bitmap answers bits → FindsBitmap opcodes answers bits 0 map
+pub finds_bitmap : {opcodes answers bits map : List ℕ} → true ≡ rows_fit opcodes answers bits → map ≡ row_bitmap answers bits
+    → FindsBitmap opcodes answers bits 0 map
 unfolding first_no
-finds_bitmap e told found = record { asked = rw (passed e told); refused = λ p. absurd (omega arith); accepted = λ z. found }
+finds_bitmap e found = record { asked = rw (sym e); refused = λ p. absurd (omega arith); accepted = λ z. found }
 
 -- the answer told in another form, as an enum by a number
 pub finds_told : {A B : Type 0} (f : A → B) (k : ControllerRow) (s : Controller) (sought : Model → A) (none : A) (number : ℕ)

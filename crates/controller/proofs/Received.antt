@@ -13,7 +13,7 @@ use Rattle.octets.specs.Octets.{octet}
 use Rattle.hci.specs.Read.{parse_command, parameters}
 use Rattle.profile.specs.declared.ControllerRow.{ControllerRow}
 use Rattle.profile.specs.Profile.{within_limits, rows_fit}
-use Rattle.profile.proofs.Limits.{within_limits_lem, rows_fit_lem, rows_answer}
+use Rattle.profile.proofs.Limits.{within_limits_lem}
 use Rattle.state.specs.Holding.{state_holds, place_size}
 use Rattle.state.specs.declared.Controller.{Controller}
 use Rattle.state.proofs.Holding.{state_told}
@@ -25,9 +25,7 @@ use Rattle.command.specs.Calling.{answered_by, carried_by, CanCarry, Gave}
 use Rattle.calls.specs.Calls.{on_packet, Held, held}
 use Rattle.calls.specs.Gives.{Accepted, Gives, events, profile_of}
 use Rattle.receive.specs.declared.Delivered.{Delivered}
-use Rattle.receive.specs.declared.Task.{Task}
-use Rattle.receive.specs.declared.Task.TheVariants as task
-use Rattle.receive.specs.Receiving.{IsCommand, parameters_of, Quiet, Tasks, Delivers, put_delivered}
+use Rattle.receive.specs.Receiving.{IsCommand, parameters_of, Quiet, Delivers, put_delivered}
 use Rattle.receive.proofs.Carrying.{params_long, carries_none, carries_course}
 use Rattle.receive.proofs.Accepting.{accepted_command, accepted_data, accepted_nothing}
 use Rattle.controller.specs.declared.refusal.Refusal.{Refusal}
@@ -36,7 +34,7 @@ use Rattle.controller.proofs.Asking.{some, first_yes}
 
 -- questions 1 to 5 have the answer "yes"
 pub can_receive : (k : ControllerRow) (opcodes answers bits : List ℕ) (s : Controller) (pool out : List ℕ)
-    → 0 ≡ about_packet k opcodes answers bits (state_holds s k) (length pool) (length out) → CanReceive s k opcodes answers pool out
+    → 0 ≡ about_packet k opcodes answers bits (state_holds s k) (length pool) (length out) → CanReceive s k pool out
 can_receive k opcodes answers bits s pool out e =
     let least = k.acl_count * place_size k in
     let five = question 5 (leb 71 (length out)) ∷ [] in
@@ -53,7 +51,6 @@ can_receive k opcodes answers bits s pool out e =
         ready = record { limits = within_limits_lem k limits.0; holds = state_told s k holds.0 };
         places = leb-true least (length pool) places.0;
       };
-      rows = rows_answer (rows_fit_lem opcodes answers bits rows.0);
       room = leb-true 71 (length out) room.0;
     }
 
@@ -122,17 +119,3 @@ can_carry {p = p} ready commands features states room c same = record {
   sized = rw (ap length (parameters_whole c same) ∙ params_long p c.read) c.courses.1;
   room = room;
 }
-
--- what the match on the task tells
-module _ (opcodes answers : List ℕ) (family : ℕ) (p : List ℕ) {t : Task} (told : Tasks opcodes answers family p t) where
-  pub is_nothing : t ≡ task.Nothing → Quiet p
-  is_nothing e = rw e at told
-
-  pub is_data : t ≡ task.Data → octet p 0 ≡ 2
-  is_data e = rw e at told
-
-  pub is_answered : {op : ℕ} {reason : Reason} → t ≡ task.Answered op reason → IsCommand opcodes answers family p op (Err reason)
-  is_answered e = rw e at told
-
-  pub is_carried : {op : ℕ} {part known : Part} → t ≡ task.Carried op part → part ≡ known → IsCommand opcodes answers family p op (Ok known)
-  is_carried e same = rw same at (rw e at told)

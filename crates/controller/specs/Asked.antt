@@ -1,9 +1,9 @@
 -- The questions that several calls begin with, as numbers: 0, or the number of the first "no"; the refusals' numbers; and what
 -- receiving a packet and writing a notice's event count on. For the inner functions of this crate; the contracts of the exported
 -- calls are `Rattle.calls.specs.Gives`.
-use Rattle.std.specs.Prelude.{◌≡◌, ℕ, ◌*◌, ◌≤◌, List, [], ◌∷◌, Bool, true, leb, length, Result, Ok, Err}
+use Rattle.std.specs.Prelude.{◌≡◌, ℕ, ◌*◌, ◌≤◌, List, [], ◌∷◌, Bool, leb, length, Result, Ok, Err}
 use Rattle.profile.specs.declared.ControllerRow.{ControllerRow}
-use Rattle.profile.specs.Profile.{within_limits, rows_fit, answers_fit}
+use Rattle.profile.specs.Profile.{within_limits, rows_fit}
 use Rattle.answers.specs.declared.Answer.{Answer}
 use Rattle.answers.specs.Answers.{AnswerHolds, answer_of}
 use Rattle.state.specs.Holding.{place_size}
@@ -57,7 +57,6 @@ pub record CanTell (a : Answer) (out : List ℕ) : Type 0 where
   pub room : 71 ≤ length out
 
 -- what receiving a packet counts on: questions 1 to 5 were answered
-pub record CanReceive (s : Controller) (profile : ControllerRow) (opcodes answers pool out : List ℕ) : Type 0 where
+pub record CanReceive (s : Controller) (profile : ControllerRow) (pool out : List ℕ) : Type 0 where
   pub store : CanStore s profile pool
-  pub rows : answers_fit opcodes answers ≡ true
   pub room : 71 ≤ length out

@@ -38,10 +38,11 @@ pub fn wegrulsta_packet(
 {
     let held = state::holds(s, profile);
     let asked = about_packet(profile, opcodes, answers, bits, held, pool.len(), out.len());
-    if let Err(refusal) = asked {
-        return refusal.told(s);
-    }
-    let task = receive::task_of(opcodes, answers, s.settings.advertising_family, packet);
+    let rows = match asked {
+        Ok(rows) => rows,
+        Err(refusal) => return refusal.told(s),
+    };
+    let task = receive::task_of(&rows, s.settings.advertising_family, packet);
     let p = receive::parameters(packet);
     match task {
         Task::Nothing => return Told::unchanged(s, ACCEPTED),

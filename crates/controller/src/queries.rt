@@ -7,7 +7,7 @@ ghost use Rattle.controller.specs.Answers.{terminating_reason};
 
 use crate::questions;
 use crate::refusal::{ACCEPTED, Refusal};
-use profile::ControllerRow;
+use profile::{ControllerRow, Rows};
 use state::Controller;
 
 // What a query finds stands beside a number, also where it is a flag: C gets it by value.
@@ -141,13 +141,13 @@ pub fn wegrulsta_buffers_in_use(profile: ControllerRow, s: Controller) -> InUse
 pub fn wegrulsta_row_bitmap(opcodes: &[u16], answers: &[u8], bits: &[u16]) -> Bitmap
     ensures { FindsBitmap opcodes.now answers.now bits.now result.number result.map }
 {
-    if !profile::rows_fit(opcodes, answers, bits) {
+    let Some(rows) = Rows::of(opcodes, answers, bits) else {
         return Bitmap {
             number: Refusal::Rows.into(),
             map: [0; 64],
         };
-    }
-    let map = profile::row_bitmap(answers, bits);
+    };
+    let map = rows.bitmap();
     Bitmap {
         number: ACCEPTED,
         map,

@@ -1,11 +1,11 @@
 // The questions that several calls begin with: each function gives the first with a "no". The calls ask question 3 themselves,
 // and `held` is its answer: the state would be copied to be handed on from here (docs/SPEED.md).
-ghost use Rattle.std.specs.Prelude.{◌≡◌, ◌*◌, leb};
+ghost use Rattle.std.specs.Prelude.{◌≡◌, ◌*◌, leb, IfOk};
 ghost use Rattle.state.specs.Holding.{place_size};
 ghost use Rattle.controller.specs.Asked.{refusal_number, about_state, about_events, about_pool, about_packet};
 
 use crate::refusal::Refusal;
-use profile::ControllerRow;
+use profile::{ControllerRow, Rows};
 
 // What a question answers that refuses nothing.
 const PASSED: Result<(), Refusal> = Ok(());
@@ -57,25 +57,26 @@ pub fn about_pool(profile: ControllerRow, held: bool, pool: usize) -> Result<(),
     PASSED
 }
 
-// 1, 2: are the rows' slices equally long, at most 256, answers at most 2?, 3, 4 and 5.
+// 1, 2: do the rows fit?, 3, 4 and 5. Gives the rows.
 #[tactic(auto, unfolding(calls::specs::Calls::first_no))]
-pub fn about_packet(
+pub fn about_packet<'a>(
     profile: ControllerRow,
-    opcodes: &[u16],
-    answers: &[u8],
-    bits: &[u16],
+    opcodes: &'a [u16],
+    answers: &'a [u8],
+    bits: &'a [u16],
     held: bool,
     pool: usize,
     room: usize,
-) -> Result<(), Refusal>
-    ensures { refusal_number result ≡ about_packet profile opcodes.now answers.now bits.now held pool room }
+) -> Result<Rows<'a>, Refusal>
+    ensures asked { refusal_number result ≡ about_packet profile opcodes.now answers.now bits.now held pool room }
+    ensures same { IfOk result (λ rows. (rows.opcodes.now ≡ opcodes.now) × (rows.answers.now ≡ answers.now)) }
 {
     if !profile::within_limits(profile) {
         return Err(Refusal::Profile);
     }
-    if !profile::rows_fit(opcodes, answers, bits) {
+    let Some(rows) = Rows::of(opcodes, answers, bits) else {
         return Err(Refusal::Rows);
-    }
+    };
     if !held {
         return Err(Refusal::State);
     }
@@ -85,5 +86,5 @@ pub fn about_packet(
     if room < 71 {
         return Err(Refusal::EventRoom);
     }
-    PASSED
+    Ok(rows)
 }

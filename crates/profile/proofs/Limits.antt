@@ -3,10 +3,10 @@
 use Prim.Native.Nat.{ℕ}
 use mathlib.Core.Path.{◌≡◌}
 use mathlib.Core.List.{List}
-use mathlib.Core.Bool.{true, and-eq-true_iff}
+use mathlib.Core.Bool.{true}
 use lib.Dec.{leb}
 use Rattle.std.proofs.Common.{rules, tests}
-use borrow.Author.Tests.{leb-true, le-leb, eqb-true, eq-eqb}
+use borrow.Author.Tests.{leb-true, le-leb, eq-eqb}
 use Rattle.lists.proofs.Tests.{all_at, all_from}
 use Rattle.profile.specs.Profile.{within_limits, Limits, answers_fit, rows_fit, Rows}
 use Rattle.profile.specs.declared.ControllerRow.{ControllerRow}
@@ -29,7 +29,7 @@ rows_fit_lem opcodes answers bits h =
       known = λ i b. leb-true _ 2 (all_at (λ a. leb a 2) answers i 0 (search (rules, tests)) b);
     }
 
--- what `row_answer` requires, of rows that fit
+-- the part of question 2 that says which answers an opcode may get
 pub rows_answer : {opcodes answers bits : List ℕ} → Rows opcodes answers bits → answers_fit opcodes answers ≡ true
 rows_answer {opcodes} {answers} r =
     rw (eq-eqb _ _ r.same_answers) (all_from (λ a. leb a 2) answers 0 (λ i b. le-leb _ 2 (r.known i b)))

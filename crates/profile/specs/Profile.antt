@@ -26,7 +26,7 @@ pub record Limits (k : ControllerRow) : Type 0 where
   pub most_accept : k.accept_list_size ≤ 32
   pub most_resolving : k.resolving_list_size ≤ 16
 
--- what `row_answer` requires: as many answers as opcodes, each at most 2
+-- as many answers as opcodes, each at most 2: `rows_answer` of proofs/Limits has it of rows that fit
 abbrev pub answers_fit : List ℕ → List ℕ → Bool
 answers_fit opcodes answers = eqb (length opcodes) (length answers) && all (λ a. leb a 2) answers
 

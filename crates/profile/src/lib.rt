@@ -3,10 +3,12 @@
 // calls, whose questions 1 and 2 are asked here. Contracts cite `specs/Profile.antt`.
 #![tactic(auto)]
 
-ghost use Rattle.std.specs.Prelude.{◌≡◌, true, cond, leb, ltb};
-ghost use Rattle.lists.specs.Lists.{all};
-ghost use Rattle.hci.specs.Bits.{with_bit};
-ghost use Rattle.profile.specs.Profile.{within_limits, answers_fit, rows_fit, row_answer, answer_number, row_bitmap};
+ghost use Rattle.std.specs.Prelude.{◌≡◌};
+ghost use Rattle.profile.specs.Profile.{within_limits};
+
+mod rows;
+
+pub use rows::Rows;
 
 // What the controller reports about itself, and how large its buffers and lists are.
 #[repr(C)]
@@ -46,69 +48,10 @@ pub fn within_limits(profile: ControllerRow) -> bool
         && profile.resolving_list_size <= 16
 }
 
-// Question 2: are the rows' slices equally long, at most 256, and their answers at most 2?
-#[tactic(auto, unfolding(crate::specs::Profile::rows_fit))]
-pub fn rows_fit(opcodes: &[u16], answers: &[u8], bits: &[u16]) -> bool
-    ensures { result ≡ rows_fit opcodes.now answers.now bits.now }
-{
-    opcodes.len() == answers.len()
-        && opcodes.len() == bits.len()
-        && opcodes.len() <= 256
-        && answers_fit(answers)
-}
-
-// Whether each answer is at most 2. It is asked with each call, so the loop looks at all of them and takes the greatest:
-// compiled, it looks at sixteen at once, which a loop that returns at the first answer above 2 does not.
-fn answers_fit(answers: &[u8]) -> bool
-    ensures { result ≡ all (λ a. leb a 2) answers.now }
-{
-    let mut greatest: u8 = 0;
-    for answer in answers {
-        greatest = greatest.max(*answer);
-    }
-    greatest <= 2
-}
-
 // How a row answers its opcode.
 #[derive(Clone, Copy)]
 pub enum Answering {
     Modeled,
     Unmodeled,
     Unknown,
-}
-
-// How the first row of an opcode answers it; None where no row has it.
-pub fn row_answer(opcodes: &[u16], answers: &[u8], op: u16) -> Option<Answering>
-    requires { answers_fit opcodes.now answers.now ≡ true }
-    ensures { answer_number result ≡ row_answer opcodes.now answers.now op }
-{
-    let i = hci::first_opcode(opcodes, op)?;
-    Some(match answers[i] {
-        0 => Answering::Modeled,
-        1 => Answering::Unmodeled,
-        _ => Answering::Unknown,
-    })
-}
-
-// The Supported_Commands bit map (Core Vol 4 Part E section 6.27) of the rows that are not unknown.
-#[tactic(auto, unfolding(crate::specs::Profile::row_bits))]
-pub fn row_bitmap(answers: &[u8], bits: &[u16]) -> [u8; 64]
-    ensures { result ≡ row_bitmap answers.now bits.now }
-{
-    let mut map = [0u8; 64];
-    for (answer, bit) in answers.iter().zip(bits) {
-        if *answer != 2 {
-            set_row_bit(&mut map, *bit);
-        }
-    }
-    map
-}
-
-// Sets the bit of a row, where the map has it.
-fn set_row_bit(map: &mut [u8; 64], bit: u16)
-    ensures { map.new ≡ cond (ltb bit 512) (with_bit map.old bit) map.old }
-{
-    if bit < 512 {
-        hci::set_bit(map, usize::from(bit));
-    }
 }

@@ -4,9 +4,8 @@
 // were the whole state to go through, it would be copied more often (docs/SPEED.md). Contracts cite `specs/Receiving.antt`.
 #![tactic(auto)]
 
-ghost use Rattle.std.specs.Prelude.{◌≡◌, true, ◌&&◌, ◌≤◌};
+ghost use Rattle.std.specs.Prelude.{◌≡◌, ◌&&◌, ◌≤◌};
 ghost use Rattle.hci.specs.Read.{parse_command};
-ghost use Rattle.profile.specs.Profile.{answers_fit};
 ghost use Rattle.links.specs.Links.{has, opened};
 ghost use Rattle.calls.specs.Packets.{flags_served};
 ghost use Rattle.calls.specs.Calls.{held};
@@ -18,7 +17,7 @@ use dispatch::Part;
 use h4::{H4_ACL, H4_COMMAND};
 use hci::{Acl, Command};
 use links::Links;
-use profile::ControllerRow;
+use profile::{ControllerRow, Rows};
 use state::{Controller, Counters};
 
 // What a packet asks for. A command comes with its opcode.
@@ -32,14 +31,13 @@ pub enum Task {
 
 // What a packet asks for, where `family` is the advertising family of the state. A packet of another kind, the empty one, and a
 // command that is cut short, which can't be acknowledged by its opcode, ask for nothing.
-pub fn task_of(opcodes: &[u16], answers: &[u8], family: u8, packet: &[u8]) -> Task
-    requires { answers_fit opcodes.now answers.now ≡ true }
-    ensures { Tasks opcodes.now answers.now family packet.now result }
+pub fn task_of(rows: &Rows<'_>, family: u8, packet: &[u8]) -> Task
+    ensures { Tasks rows.now.opcodes.now rows.now.answers.now family packet.now result }
 {
     match packet.first() {
         Some(&H4_ACL) => Task::Data,
         Some(&H4_COMMAND) => match Command::parse(packet) {
-            Ok(c) => command_task(opcodes, answers, family, c.opcode, c.len),
+            Ok(c) => command_task(rows, family, c.opcode, c.len),
             Err(_) => Task::Nothing,
         },
         _ => Task::Nothing,
@@ -47,12 +45,10 @@ pub fn task_of(opcodes: &[u16], answers: &[u8], family: u8, packet: &[u8]) -> Ta
 }
 
 // A command with this opcode and so many parameters.
-fn command_task(opcodes: &[u16], answers: &[u8], family: u8, op: u16, len: u8) -> Task
-    requires { answers_fit opcodes.now answers.now ≡ true }
-    ensures { CommandTask opcodes.now answers.now family op len result }
+fn command_task(rows: &Rows<'_>, family: u8, op: u16, len: u8) -> Task
+    ensures { CommandTask rows.now.opcodes.now rows.now.answers.now family op len result }
 {
-    let answering = profile::row_answer(opcodes, answers, op);
-    match command::course_of(answering, op, family, usize::from(len)) {
+    match command::course_of(rows.answer(op), op, family, usize::from(len)) {
         Ok(part) => Task::Carried(op, part),
         Err(reason) => Task::Answered(op, reason),
     }

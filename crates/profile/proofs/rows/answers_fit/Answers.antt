@@ -1,11 +1,11 @@
--- `profile::answers_fit` meets its contract.
+-- `rows::answers_fit` meets its contract.
 use Rattle.std.proofs.Common.{◌≡◌, ℕ, leb, max, refl, sym, arith}
 use mathlib.Core.Bool.{◌&&◌}
 use lib.Seq.{take_all}
 use Rattle.std.proofs.lemmas.Bool.Decides.{nat_tests}
 use Rattle.lists.specs.Lists.{all}
 use Rattle.lists.proofs.Prefix.{all_next}
-use Rattle.profile.proofs.answers_fit.Goals as goal
+use Rattle.profile.proofs.rows.answers_fit.Goals as goal
 
 greatest_fits : (g a : ℕ) → leb (max g a) 2 ≡ leb g 2 && leb a 2
 greatest_fits g a = grind (arith, nat_tests)

@@ -1,0 +1,89 @@
+// The rows of a profile: how it answers each opcode, and the opcode's bit in the map of supported commands. They are three slices
+// that the caller lends, and come with question 2 answered: nothing else can make one. For `receive` and the controller's calls.
+ghost use Rattle.std.specs.Prelude.{◌≡◌, true, cond, leb, ltb};
+ghost use Rattle.lists.specs.Lists.{all};
+ghost use Rattle.hci.specs.Bits.{with_bit};
+ghost use Rattle.profile.specs.Profile.{rows_fit};
+
+use crate::Answering;
+
+// Rows whose slices fit one another.
+#[derive(Clone, Copy)]
+pub struct Rows<'a> {
+    pub opcodes: &'a [u16],
+    pub answers: &'a [u8],
+    pub bits: &'a [u16],
+    pub ghost fits: { rows_fit opcodes.now answers.now bits.now ≡ true },
+}
+
+impl<'a> Rows<'a> {
+    ghost use Rattle.std.specs.Prelude.{is_some, IfSome};
+    ghost use Rattle.profile.specs.Profile.{row_answer, answer_number, row_bitmap};
+
+    // Question 2: are the rows' slices equally long, at most 256, and their answers at most 2?
+    #[tactic(auto, unfolding(crate::specs::Profile::rows_fit))]
+    pub fn of(opcodes: &'a [u16], answers: &'a [u8], bits: &'a [u16]) -> Option<Rows<'a>>
+        ensures asked { is_some result ≡ rows_fit opcodes.now answers.now bits.now }
+        ensures same { IfSome result (λ rows. (rows.opcodes.now ≡ opcodes.now) × (rows.answers.now ≡ answers.now) × (rows.bits.now ≡ bits.now)) }
+    {
+        let fit = opcodes.len() == answers.len()
+            && opcodes.len() == bits.len()
+            && opcodes.len() <= 256
+            && answers_fit(answers);
+        if !fit {
+            return None;
+        }
+        Some(Rows {
+            opcodes,
+            answers,
+            bits,
+        })
+    }
+
+    // How the first row of an opcode answers it; None where no row has it.
+    pub fn answer(&self, op: u16) -> Option<Answering>
+        ensures { answer_number result ≡ row_answer self.now.opcodes.now self.now.answers.now op }
+    {
+        let i = hci::first_opcode(self.opcodes, op)?;
+        Some(match self.answers[i] {
+            0 => Answering::Modeled,
+            1 => Answering::Unmodeled,
+            _ => Answering::Unknown,
+        })
+    }
+
+    // The Supported_Commands bit map (Core Vol 4 Part E section 6.27) of the rows that are not unknown.
+    #[tactic(auto, unfolding(crate::specs::Profile::row_bits))]
+    pub fn bitmap(&self) -> [u8; 64]
+        ensures { result ≡ row_bitmap self.now.answers.now self.now.bits.now }
+    {
+        let mut map = [0u8; 64];
+        for (answer, bit) in self.answers.iter().zip(self.bits) {
+            if *answer != 2 {
+                set_row_bit(&mut map, *bit);
+            }
+        }
+        map
+    }
+}
+
+// Whether each answer is at most 2. It is asked with each call, so the loop looks at all of them and takes the greatest:
+// compiled, it looks at sixteen at once, which a loop that returns at the first answer above 2 does not.
+fn answers_fit(answers: &[u8]) -> bool
+    ensures { result ≡ all (λ a. leb a 2) answers.now }
+{
+    let mut greatest: u8 = 0;
+    for answer in answers {
+        greatest = greatest.max(*answer);
+    }
+    greatest <= 2
+}
+
+// Sets the bit of a row, where the map has it.
+fn set_row_bit(map: &mut [u8; 64], bit: u16)
+    ensures { map.new ≡ cond (ltb bit 512) (with_bit map.old bit) map.old }
+{
+    if bit < 512 {
+        hci::set_bit(map, usize::from(bit));
+    }
+}
