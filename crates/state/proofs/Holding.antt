@@ -6,7 +6,8 @@ use borrow.Author.Tests.{not-true, not-false}
 use Rattle.profile.specs.declared.ControllerRow.{ControllerRow}
 use Rattle.links.proofs.Holding.{holds_facts, facts_hold}
 use Rattle.state.specs.declared.Controller.{Controller}
-use Rattle.state.specs.Holding.{accept_holds, resolving_holds, advertising_holds, settings_hold, own_parts_hold, state_holds, StateHolds}
+use Rattle.state.specs.Holding.{accept_holds, resolving_holds, advertising_holds, settings_hold}
+use Rattle.state.specs.Holding.{own_parts_hold, state_holds, StateHolds}
 
 -- two tests that both pass
 pub both : (a b : Bool) → (a && b) ≡ true → (a ≡ true) × (b ≡ true)

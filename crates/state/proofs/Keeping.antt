@@ -1,6 +1,7 @@
 -- What keeps the state together: each operation on a part keeps what question 3 asks of that part, so a state whose part is
 -- put back holds together again. For the controller's calls.
-use Rattle.std.proofs.Common.{◌≡◌, ℕ, ◌<◌, ◌≤◌, ltb, List, [], ◌∷◌, ◌++◌, length, drop, sym, ap, ◌∙◌, arith, length-append, length-drop, ltb-true}
+use Rattle.std.proofs.Common.{◌≡◌, ℕ, ◌<◌, ◌≤◌, ltb, List, [], ◌∷◌, ◌++◌, length, drop, sym, ap, ◌∙◌}
+use Rattle.std.proofs.Common.{arith, length-append, length-drop, ltb-true}
 use borrow.Table.Steps.{cases}
 use Rattle.lists.specs.Lists.{first_at, without, update_first}
 use Rattle.lists.proofs.Chunks.{length_chunks}
@@ -14,17 +15,25 @@ use Rattle.state.specs.declared.Recent.{Recent}
 
 -- ---- the accept list
 module _ {a r : AcceptList} {size : ℕ} where
-  pub accept_added : (entry : List ℕ) → AcceptHolds a size → size ≤ 32 → accept_entries r ≡ added size entry (accept_entries a) → AcceptHolds r size
+  pub accept_added : (entry : List ℕ) → AcceptHolds a size → size ≤ 32
+      → accept_entries r ≡ added size entry (accept_entries a) → AcceptHolds r size
   accept_added entry h most e =
-      let n : length (accept_entries a) ≤ size = rw (kept.accept_count a) h.sized in
-      let m : r.count ≤ size = omega (arith, kept.accept_count r, ap length e, kept.added_within entry (accept_entries a) size n) in
-      record { few = omega arith; sized = m; differ = rw e (kept.added_differ entry (accept_entries a) size h.differ) }
+      let l : List (List ℕ) = accept_entries a in
+      let n : length l ≤ size = rw (kept.accept_count a) h.sized in
+      let m : r.count ≤ size = omega (arith, kept.accept_count r, ap length e, kept.added_within entry l size n) in
+      record { few = omega arith; sized = m; differ = rw e (kept.added_differ entry l size h.differ) }
 
-  pub accept_removed : (entry : List ℕ) → AcceptHolds a size → accept_entries r ≡ removed entry (accept_entries a) → AcceptHolds r size
+  pub accept_removed : (entry : List ℕ) → AcceptHolds a size
+      → accept_entries r ≡ removed entry (accept_entries a) → AcceptHolds r size
   accept_removed entry h e =
+      let l : List (List ℕ) = accept_entries a in
       let m : r.count ≤ a.count =
-      omega (arith, kept.accept_count r, kept.accept_count a, ap length e, kept.removed_within entry (accept_entries a)) in
-      record { few = omega (arith, h.few); sized = omega (arith, h.sized); differ = rw e (kept.removed_differ entry (accept_entries a) h.differ) }
+      omega (arith, kept.accept_count r, kept.accept_count a, ap length e, kept.removed_within entry l) in
+      record {
+        few = omega (arith, h.few);
+        sized = omega (arith, h.sized);
+        differ = rw e (kept.removed_differ entry l h.differ);
+      }
 
 pub accept_empty : {r : AcceptList} (size : ℕ) → accept_entries r ≡ [] → AcceptHolds r size
 accept_empty {r} size e =
@@ -37,24 +46,35 @@ module _ {a r : ResolvingList} {size : ℕ} where
       → a.count ≤ first_at (has_identity identity) (resolving_entries a) → a.count < size
       → resolving_entries r ≡ resolving_entries a ++ (new_entry identity ∷ []) → ResolvingHolds r size
   resolving_pushed identity h most seven absent room e =
-      let n : length (resolving_entries a) ≡ a.count = kept.resolving_count a in
+      let l : List (List ℕ) = resolving_entries a in
+      let n : length l ≡ a.count = kept.resolving_count a in
       let m : r.count ≤ size =
-      omega (arith, kept.resolving_count r, ap length e, kept.pushed_within identity (resolving_entries a) size (omega arith)) in
-      record { few = omega arith; sized = m; differ = rw e (kept.pushed_differ identity (resolving_entries a) seven (omega arith) h.differ) }
+      omega (arith, kept.resolving_count r, ap length e, kept.pushed_within identity l size (omega arith)) in
+      record { few = omega arith; sized = m; differ = rw e (kept.pushed_differ identity l seven (omega arith) h.differ) }
 
   pub resolving_removed : (identity : List ℕ) → ResolvingHolds a size
       → resolving_entries r ≡ without (has_identity identity) (resolving_entries a) → ResolvingHolds r size
   resolving_removed identity h e =
+      let l : List (List ℕ) = resolving_entries a in
       let m : r.count ≤ a.count =
-      omega (arith, kept.resolving_count r, kept.resolving_count a, ap length e, kept.without_within identity (resolving_entries a)) in
-      record { few = omega (arith, h.few); sized = omega (arith, h.sized); differ = rw e (kept.without_differ identity (resolving_entries a) h.differ) }
+      omega (arith, kept.resolving_count r, kept.resolving_count a, ap length e, kept.without_within identity l) in
+      record {
+        few = omega (arith, h.few);
+        sized = omega (arith, h.sized);
+        differ = rw e (kept.without_differ identity l h.differ);
+      }
 
   pub resolving_moded : (identity : List ℕ) (mode : ℕ) → ResolvingHolds a size → length identity ≡ 7
       → resolving_entries r ≡ update_first (has_identity identity) (with_mode mode) (resolving_entries a) → ResolvingHolds r size
   resolving_moded identity mode h seven e =
+      let l : List (List ℕ) = resolving_entries a in
       let m : r.count ≡ a.count =
-      sym (kept.resolving_count r) ∙ ap length e ∙ kept.mode_length identity (resolving_entries a) mode ∙ kept.resolving_count a in
-      record { few = omega (arith, h.few); sized = omega (arith, h.sized); differ = rw e (kept.mode_differ identity (resolving_entries a) mode seven h.differ) }
+      sym (kept.resolving_count r) ∙ ap length e ∙ kept.mode_length identity l mode ∙ kept.resolving_count a in
+      record {
+        few = omega (arith, h.few);
+        sized = omega (arith, h.sized);
+        differ = rw e (kept.mode_differ identity l mode seven h.differ);
+      }
 
 pub resolving_empty : {r : ResolvingList} (size : ℕ) → resolving_entries r ≡ [] → ResolvingHolds r size
 resolving_empty {r} size e =
@@ -72,6 +92,7 @@ remember_most answer l h =
     (λ e. rw (e, length-append l (answer ∷ [])) (omega (arith, ltb-true (length l) 32 e)))
     (λ e. rw (e, length-append (drop 1 l) (answer ∷ []), length-drop 1 l) (omega arith))
 
-pub recent_remembered : (a r : Recent) (answer : List ℕ) → a.count ≤ 32 → answers_of r ≡ remember answer (answers_of a) → r.count ≤ 32
+pub recent_remembered : (a r : Recent) (answer : List ℕ) → a.count ≤ 32
+    → answers_of r ≡ remember answer (answers_of a) → r.count ≤ 32
 recent_remembered a r answer h e =
     omega (arith, answers_count r, ap length e, remember_most answer (answers_of a) (omega (arith, answers_count a)))

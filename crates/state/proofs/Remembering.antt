@@ -1,6 +1,7 @@
 -- One answer more in the flat array of answers: those that are kept are copied to its front, and the new one is stored
 -- behind them. For the proof of `remember`.
-use Rattle.std.proofs.Common.{◌≡◌, ℕ, ◌+◌, ◌-◌, ◌*◌, ◌≤◌, min, ltb, List, [], ◌∷◌, ◌++◌, length, take, drop, sym, ap, ◌∙◌, arith, length-append, length-drop, length-take-le, drop_at, ltb-false, ltb-true}
+use Rattle.std.proofs.Common.{◌≡◌, ℕ, ◌+◌, ◌-◌, ◌*◌, ◌≤◌, min, ltb, List, [], ◌∷◌, ◌++◌, length, take, drop, sym, ap, ◌∙◌}
+use Rattle.std.proofs.Common.{arith, length-append, length-drop, length-take-le, drop_at, ltb-false, ltb-true}
 use borrow.Table.Steps.{cases}
 use Rattle.octets.specs.Octets.{Put}
 use Rattle.octets.proofs.Writing.{put_then, put_front, put_long}
@@ -27,8 +28,9 @@ last_kept answer l n e h =
 chunks_drop : (d m : ℕ) (l : List ℕ) → drop d (chunks 3 (d + m) l) ≡ chunks 3 m (drop (d * 3) l)
 chunks_drop d m l = rw (chunks_add 3 d m l) (drop_at (chunks 3 d l) (chunks 3 m (drop (d * 3) l)) d (length_chunks 3 d l))
 
-module _ (l : List ℕ) (a b c n kept : ℕ) {end r : ℕ} {one after : List ℕ} (long : length l ≡ 96) (most : n ≤ 32) (k : kept ≡ min n 31) where
-  pub one_more : Put l 0 (take (3 * n - 3 * (n - kept)) (drop (3 * (n - kept)) l)) end one → Put one end (a ∷ b ∷ c ∷ []) r after
+module _ (l : List ℕ) (a b c n kept : ℕ) {end r : ℕ} {one after : List ℕ}
+    (long : length l ≡ 96) (most : n ≤ 32) (k : kept ≡ min n 31) where
+  pub one_more : Put l 0 (take (3 * kept) (drop (3 * (n - kept)) l)) end one → Put one end (a ∷ b ∷ c ∷ []) r after
       → chunks 3 (kept + 1) after ≡ remember (a ∷ b ∷ c ∷ []) (chunks 3 n l)
   unfolding chunks
   one_more p q =
@@ -37,7 +39,7 @@ module _ (l : List ℕ) (a b c n kept : ℕ) {end r : ℕ} {one after : List ℕ
       let old : List ℕ = drop (d * 3) l in
       let room : kept * 3 ≤ length old = simp length-drop (omega arith) in
       let from : 3 * (n - kept) ≡ d * 3 = omega arith in
-      let count : 3 * n - 3 * (n - kept) ≡ kept * 3 = omega arith in
+      let count : 3 * kept ≡ kept * 3 = omega arith in
       let all : d + kept ≡ n = omega arith in
       let both : Put l 0 (take (kept * 3) old ++ answer) r after = put_then (rw (count, from) at p) q in
       let size : length (take (kept * 3) old) ≡ kept * 3 = length-take-le (kept * 3) old room in

@@ -1,6 +1,7 @@
 -- The controller's state as mathematics: arrays beside their counts become lists, waiting packets become the octets that
 -- the pool holds; the other groups stand for themselves. Read beside the source's `Controller` and its `Default`.
-use Rattle.std.specs.Prelude.{ℕ, ◌+◌, ◌-◌, ◌%◌, ◌^◌, Bool, cond, not, ◌&&◌, ◌||◌, List, [], ◌∷◌, ◌++◌, length, take, drop, replicate, ◌==◌, nat_lt, slice_index}
+use Rattle.std.specs.Prelude.{ℕ, ◌+◌, ◌-◌, ◌%◌, ◌^◌, ◌==◌, nat_lt, Bool, cond, not, ◌&&◌, ◌||◌}
+use Rattle.std.specs.Prelude.{List, [], ◌∷◌, ◌++◌, length, take, drop, replicate, slice_index}
 use Rattle.octets.specs.Octets.{le, is_yes}
 use Rattle.lists.specs.Lists.{chunks}
 use Rattle.hci.specs.Bits.{bit_of}
@@ -125,10 +126,10 @@ reset_model m = fresh m.counters m.recent
 
 -- the advertising state with other data, and with another scan response
 abbrev pub with_data : List ℕ → AdvertisingModel → AdvertisingModel
-with_data octets a = record { params = a.params; «data» = octets; scan_response = a.scan_response; enabled = a.enabled }
+with_data octets a = record a { «data» = octets }
 
 abbrev pub with_scan_response : List ℕ → AdvertisingModel → AdvertisingModel
-with_scan_response octets a = record { params = a.params; «data» = a.«data»; scan_response = octets; enabled = a.enabled }
+with_scan_response octets a = record a { scan_response = octets }
 
 -- `busy`: advertising enabled, scan enable nonzero or initiating
 abbrev pub busy : Model → Bool
@@ -160,13 +161,13 @@ abbrev pub wrapped : ℕ → ℕ
 wrapped n = (n + 1) % 2 ^ 64
 
 abbrev pub count_command : Counters → Counters
-count_command c = record { commands = wrapped c.commands; unknown_commands = c.unknown_commands; acl_packets = c.acl_packets; acl_dropped = c.acl_dropped }
+count_command c = record c { commands = wrapped c.commands }
 
 abbrev pub count_unknown : Counters → Counters
-count_unknown c = record { commands = c.commands; unknown_commands = wrapped c.unknown_commands; acl_packets = c.acl_packets; acl_dropped = c.acl_dropped }
+count_unknown c = record c { unknown_commands = wrapped c.unknown_commands }
 
 abbrev pub count_packet : Counters → Counters
-count_packet c = record { commands = c.commands; unknown_commands = c.unknown_commands; acl_packets = wrapped c.acl_packets; acl_dropped = c.acl_dropped }
+count_packet c = record c { acl_packets = wrapped c.acl_packets }
 
 abbrev pub count_dropped : Counters → Counters
-count_dropped c = record { commands = c.commands; unknown_commands = c.unknown_commands; acl_packets = c.acl_packets; acl_dropped = wrapped c.acl_dropped }
+count_dropped c = record c { acl_dropped = wrapped c.acl_dropped }

@@ -14,10 +14,8 @@ pub fn remember(recent: Recent, op: u16, status: u8) -> Recent
     let n = recent.count;
     let [low, high] = op.to_le_bytes();
     let kept = n.min(31);
-    let from = 3 * (n - kept);
-    let before = recent.octets;
-    let mut octets = before;
-    let end = octets::put(&mut octets, 0, &before[from..3 * n]);
+    let mut octets = recent.octets;
+    let end = octets::move_to_front(&mut octets, 3 * (n - kept), 3 * kept);
     octets::put(&mut octets, end, &[low, high, status]);
     Recent {
         octets,
@@ -25,6 +23,7 @@ pub fn remember(recent: Recent, op: u16, status: u8) -> Recent
     }
 }
 
+// A function for each counter: one over all would be handed which field it counts, and is no plainer than this one line.
 impl Counters {
     pub fn count_command(mut self) -> Counters
         ensures { result ≡ count_command self }

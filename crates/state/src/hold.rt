@@ -1,6 +1,7 @@
 // Question 3: does the state hold together? Decided exactly, the cheap conditions first, since every exported call asks it.
 ghost use Rattle.std.specs.Prelude.{◌≡◌};
-ghost use Rattle.state.specs.Holding.{accept_holds, resolving_holds, advertising_holds, settings_hold, own_parts_hold, state_holds};
+ghost use Rattle.state.specs.Holding.{accept_holds, resolving_holds, advertising_holds, settings_hold};
+ghost use Rattle.state.specs.Holding.{own_parts_hold, state_holds};
 
 use crate::{Advertising, Controller, Recent, Settings};
 use filters::{AcceptList, ResolvingList};

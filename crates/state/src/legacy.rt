@@ -11,10 +11,9 @@ impl Advertising {
     pub fn interval(self) -> Interval
         ensures { (result.least ≡ word self.params 0) × (result.greatest ≡ word self.params 2) }
     {
-        let params = self.params;
         Interval {
-            least: octets::word_at(&params, 0),
-            greatest: octets::word_at(&params, 2),
+            least: octets::word_at(&self.params, 0),
+            greatest: octets::word_at(&self.params, 2),
         }
     }
 
@@ -22,40 +21,35 @@ impl Advertising {
     pub fn kind(self) -> u8
         ensures { result ≡ octet self.params 4 }
     {
-        let params = self.params;
-        params[4]
+        self.params[4]
     }
 
     pub fn own_address_type(self) -> u8
         ensures { result ≡ octet self.params 5 }
     {
-        let params = self.params;
-        params[5]
+        self.params[5]
     }
 
     // The same with other advertising data (section 7.8.7).
     #[tactic(auto, using(octets::proofs::Writing::put_front))]
     pub fn with_data(mut self, load: &[u8]) -> Advertising
         requires { length load.now ≤ 31 }
-        ensures { (advertising_of result ≡ with_data load.now (advertising_of self)) × (AdvertisingHolds self → AdvertisingHolds result) }
+        ensures { (advertising_of result ≡ with_data load.now (advertising_of self))
+            × (AdvertisingHolds self → AdvertisingHolds result) }
     {
-        let mut octets = self.data;
-        let n = octets::put(&mut octets, 0, load);
-        self.data = octets;
-        self.data_len = n as u8;
+        self.data_len = octets::put(&mut self.data, 0, load) as u8;
         self
     }
 
-    // The same with another scan response (section 7.8.8). C's header names both pairs of fields, so they are no type of their own.
+    // The same with another scan response (section 7.8.8). C's header names both pairs of fields, so they are no type of
+    // their own.
     #[tactic(auto, using(octets::proofs::Writing::put_front))]
     pub fn with_scan_response(mut self, load: &[u8]) -> Advertising
         requires { length load.now ≤ 31 }
-        ensures { (advertising_of result ≡ with_scan_response load.now (advertising_of self)) × (AdvertisingHolds self → AdvertisingHolds result) }
+        ensures { (advertising_of result ≡ with_scan_response load.now (advertising_of self))
+            × (AdvertisingHolds self → AdvertisingHolds result) }
     {
-        let mut octets = self.scan_response;
-        let n = octets::put(&mut octets, 0, load);
-        self.scan_response = octets;
-        self.scan_response_len = n as u8;
+        self.scan_response_len = octets::put(&mut self.scan_response, 0, load) as u8;
         self
     }
 }

@@ -1,7 +1,8 @@
 // What the commands ask of the state before they change it.
 ghost use Rattle.std.specs.Prelude.{◌≡◌, ℕ, ◌≤◌, List};
 ghost use Rattle.state.specs.State.{busy as is_busy};
-ghost use Rattle.state.specs.State.{view, advertising_of, accept_list_in_use, advertiser_filters, scanner_filters, initiator_filters, le_event_enabled};
+ghost use Rattle.state.specs.State.{view, advertising_of, accept_list_in_use, le_event_enabled};
+ghost use Rattle.state.specs.State.{advertiser_filters, scanner_filters, initiator_filters};
 
 use crate::{Advertising, Controller, Masks, Scanning};
 
@@ -9,8 +10,7 @@ use crate::{Advertising, Controller, Masks, Scanning};
 pub fn busy(s: Controller) -> bool
     ensures { (size : ℕ) (pool : List ℕ) → result ≡ is_busy (view s size pool) }
 {
-    let enable = s.scanning.enable;
-    s.advertising.enabled != 0 || enable[0] != 0 || s.scanning.initiating != 0
+    s.advertising.enabled != 0 || s.scanning.enable[0] != 0 || s.scanning.initiating != 0
 }
 
 // Whether the accept list is in use, so that it may not change.
@@ -25,16 +25,13 @@ pub fn accept_list_in_use(s: Controller) -> bool
 fn advertiser_filters(advertising: Advertising) -> bool
     ensures { result ≡ advertiser_filters (advertising_of advertising) }
 {
-    let params = advertising.params;
-    advertising.enabled != 0 && params[14] != 0
+    advertising.enabled != 0 && advertising.params[14] != 0
 }
 
 fn scanner_filters(scanning: Scanning) -> bool
     ensures { result ≡ scanner_filters scanning }
 {
-    let enable = scanning.enable;
-    let params = scanning.params;
-    enable[0] != 0 && params[6] != 0
+    scanning.enable[0] != 0 && scanning.params[6] != 0
 }
 
 fn initiator_filters(scanning: Scanning) -> bool

@@ -2,7 +2,8 @@
 ghost use Rattle.std.specs.Prelude.{◌≡◌, ℕ, ◌≤◌, List, []};
 ghost use Rattle.profile.specs.declared.ControllerRow.{ControllerRow};
 ghost use Rattle.state.specs.Holding.{AdvertisingHolds, StateHolds};
-ghost use Rattle.state.specs.State.{view, answers_of, advertising_of, default_model, default_settings, default_advertising, fresh, reset_model};
+ghost use Rattle.state.specs.State.{view, answers_of, advertising_of, default_model, fresh, reset_model};
+ghost use Rattle.state.specs.State.{default_settings, default_advertising};
 
 use crate::{Advertising, Controller, Counters, Masks, Recent, Scanning, Settings};
 use filters::{AcceptList, ResolvingList};
@@ -29,9 +30,7 @@ pub fn reset(s: Controller) -> Controller
     ensures viewed { (size : ℕ) (pool : List ℕ) → view result size pool ≡ reset_model (view s size pool) }
     ensures held { s.recent.count ≤ 32 → (k : ControllerRow) → StateHolds result k }
 {
-    let counters = s.counters;
-    let recent = s.recent;
-    fresh_state(counters, recent)
+    fresh_state(s.counters, s.recent)
 }
 
 // The default state with these counters and answers.
