@@ -21,9 +21,11 @@ use Rattle.state.specs.State.{Model, count_command}
 use Rattle.commands.specs.Parts.{with_counters}
 use Rattle.commands.specs.Outcome.{Outcome, outcome, Given}
 use Rattle.commands.specs.Table.{find, rows, sized}
-use Rattle.commands.specs.Command.{family_of, other_family, with_family, refused, modelled, listed_row, rowless, by_row, remembered, command, command_octets}
+use Rattle.commands.specs.Command.{family_of, other_family, with_family, refused, modelled, listed_row, rowless, by_row}
+use Rattle.commands.specs.Command.{remembered, command, command_octets}
 use Rattle.commands.specs.Leaves.{Shaped, Modest, Leaves, IsReset, sets_event_mask}
-use Rattle.commands.proofs.Leaving.{completes, one_done, one_status, modest_cond, same_state, leaves_before, leaves_after, leaves_kept, leaves_weaker}
+use Rattle.commands.proofs.Leaving.{completes, one_done, one_status, modest_cond, same_state}
+use Rattle.commands.proofs.Leaving.{leaves_before, leaves_after, leaves_kept, leaves_weaker}
 use Rattle.commands.proofs.TableLeaves.{rows_leave, rows_modest}
 
 -- ---- parts that touch no link and no mask
@@ -103,7 +105,8 @@ modelled_modest g shaped op m =
 -- ---- any command
 
 -- the octets that an answer becomes
-acknowledged : (form : Form) (num op : ℕ) (octets then : List ℕ) → 6 + length octets + length then ≤ 71 → least form ≤ length octets
+acknowledged : (form : Form) (num op : ℕ) (octets then : List ℕ) → 6 + length octets + length then ≤ 71
+    → least form ≤ length octets
     → length (acknowledgement form num op octets ++ then) ≤ 71
 acknowledged Complete num op octets then short told = omega (arith, length-append octets then)
 acknowledged Status num op octets then short told = omega arith
@@ -161,15 +164,19 @@ reset_row g answer m most h =
     (λ three. let h3 = rw three at h2 in cases (eqb answer 1)
     (λ one. let k = rw one at h3 in absurd (omega arith))
     (λ one. let h1 = rw one at h3 in cases (eqb (length g.params) 0)
-    (λ none. (omega (arith, eqb-false answer 1 one, eqb-false answer 2 two, eqb-false answer 3 three), eqb-true (length g.params) 0 none))
+    (λ none.
+    let modelled : answer ≡ 0 = omega (arith, eqb-false answer 1 one, eqb-false answer 2 two, eqb-false answer 3 three) in
+    (modelled, eqb-true (length g.params) 0 none))
     (λ some. let k = rw some at h1 in absurd (omega arith)))))
 
-pub reset_status : (g : Given) (answer op : ℕ) (m : Model) → answer ≤ 3 → op ≡ 0x0C03 → get_or (command g answer op m).answer.octets 0 1 ≡ 0
+pub reset_status : (g : Given) (answer op : ℕ) (m : Model) → answer ≤ 3 → op ≡ 0x0C03
+    → get_or (command g answer op m).answer.octets 0 1 ≡ 0
     → (answer ≡ 0) × (length g.params ≡ 0)
 unfolding command
 reset_status g answer op m most same h = reset_row g answer (with_counters (count_command m.counters) m) most (rw same at h)
 
-pub reset_only : (g : Given) (answer op : ℕ) (m : Model) → answer ≤ 3 → (command g answer op m).answer ≡ complete (0 ∷ []) → op ≡ 0x0C03
+pub reset_only : (g : Given) (answer op : ℕ) (m : Model) → answer ≤ 3
+    → (command g answer op m).answer ≡ complete (0 ∷ []) → op ≡ 0x0C03
     → (answer ≡ 0) × (length g.params ≡ 0)
 reset_only g answer op m most success same =
     reset_status g answer op m most same (ap (λ (a : AnswerModel). get_or a.octets 0 1) success)

@@ -3,6 +3,7 @@
 use mathlib.Core.Path.{◌≡◌, sym, ap, ◌∙◌}
 use Prim.Native.Nat.{ℕ, ◌≤◌}
 use mathlib.Core.List.{List}
+use Rattle.std.proofs.Common.{rules}
 use Rattle.profile.specs.declared.ControllerRow.{ControllerRow}
 use Rattle.answers.specs.declared.Answer.{Answer}
 use Rattle.answers.specs.Answers.{AnswerModel, AnswerHolds, answer_of, followed, Follows}
@@ -24,48 +25,51 @@ use Rattle.state.specs.declared.Counters.{Counters}
 use Rattle.state.specs.declared.Recent.{Recent}
 use Rattle.state.specs.declared.Controller.{Controller}
 use Rattle.commands.specs.Parts.{with_masks, with_links}
-use Rattle.commands.specs.Put.{put_masks, put_settings, put_advertising, put_scanning, put_accept_list, put_resolving_list, put_links, put_counters, put_recent}
+use Rattle.commands.specs.Put.{put_masks, put_settings, put_advertising, put_scanning, put_accept_list}
+use Rattle.commands.specs.Put.{put_resolving_list, put_links, put_counters, put_recent}
 use Rattle.commands.specs.Outcome.{Outcome, outcome, done, Answers, Gives}
 
 -- ---- an answer alone
 
 -- one that a function of `answers` made
-pub answered : {expected made : AnswerModel} {a : Answer} → (answer_of a ≡ made) × AnswerHolds a → made ≡ expected → Answers expected a
+pub answered : {expected made : AnswerModel} {a : Answer} → (answer_of a ≡ made) × AnswerHolds a → made ≡ expected
+    → Answers expected a
 answered e same = record { same = e.0 ∙ same; shaped = e.1 }
 
 -- the same with an event behind it
-pub answered_then : {octets : List ℕ} {expected made : AnswerModel} {a b : Answer} → Follows octets a b → (answer_of a ≡ made) × AnswerHolds a
+pub answered_then : {octets : List ℕ} {expected made : AnswerModel} {a b : Answer} → Follows octets a b
+    → (answer_of a ≡ made) × AnswerHolds a
     → followed octets made ≡ expected → Answers expected b
 answered_then {octets} f e same = record { same = f.0 ∙ ap (λ (x : AnswerModel). followed octets x) e.0 ∙ same; shaped = f.1 e.1 }
 
 -- ---- the state with a new part holds together, where the part does
 module _ {s : Controller} {k : ControllerRow} (h : StateHolds s k) where
   pub holds_masks : (x : Masks) → StateHolds (put_masks x s) k
-  holds_masks x = record { settings = h.settings; advertising = h.advertising; recent = h.recent; links = h.links; accept = h.accept; resolving = h.resolving }
+  holds_masks x = search rules
 
   pub holds_settings : {x : Settings} → SettingsHold x → StateHolds (put_settings x s) k
-  holds_settings part = record { settings = part; advertising = h.advertising; recent = h.recent; links = h.links; accept = h.accept; resolving = h.resolving }
+  holds_settings part = search rules
 
   pub holds_advertising : {x : Advertising} → AdvertisingHolds x → StateHolds (put_advertising x s) k
-  holds_advertising part = record { settings = h.settings; advertising = part; recent = h.recent; links = h.links; accept = h.accept; resolving = h.resolving }
+  holds_advertising part = search rules
 
   pub holds_scanning : (x : Scanning) → StateHolds (put_scanning x s) k
-  holds_scanning x = record { settings = h.settings; advertising = h.advertising; recent = h.recent; links = h.links; accept = h.accept; resolving = h.resolving }
+  holds_scanning x = search rules
 
   pub holds_accept_list : {x : AcceptList} → AcceptHolds x k.accept_list_size → StateHolds (put_accept_list x s) k
-  holds_accept_list part = record { settings = h.settings; advertising = h.advertising; recent = h.recent; links = h.links; accept = part; resolving = h.resolving }
+  holds_accept_list part = search rules
 
   pub holds_resolving_list : {x : ResolvingList} → ResolvingHolds x k.resolving_list_size → StateHolds (put_resolving_list x s) k
-  holds_resolving_list part = record { settings = h.settings; advertising = h.advertising; recent = h.recent; links = h.links; accept = h.accept; resolving = part }
+  holds_resolving_list part = search rules
 
   pub holds_links : {x : Links} → LinksHold x k.acl_count (place_size k) → StateHolds (put_links x s) k
-  holds_links part = record { settings = h.settings; advertising = h.advertising; recent = h.recent; links = part; accept = h.accept; resolving = h.resolving }
+  holds_links part = search rules
 
   pub holds_counters : (x : Counters) → StateHolds (put_counters x s) k
-  holds_counters x = record { settings = h.settings; advertising = h.advertising; recent = h.recent; links = h.links; accept = h.accept; resolving = h.resolving }
+  holds_counters x = search rules
 
   pub holds_recent : {x : Recent} → x.count ≤ 32 → StateHolds (put_recent x s) k
-  holds_recent part = record { settings = h.settings; advertising = h.advertising; recent = part; links = h.links; accept = h.accept; resolving = h.resolving }
+  holds_recent part = search rules
 
 -- ---- an answer beside the state after the command
 
@@ -87,7 +91,8 @@ module _ {f : Model → Outcome} {k : ControllerRow} {s : Controller} where
       → StateHolds s k → Gives f k s (put_links r s) a
   gives_changed {r} {expected} h g keeps x answers same held =
       gives_answer (answers.same, answers.shaped)
-      (λ size pool. same size pool ∙ ap (λ (y : links.Model). outcome expected (with_links y (view s size pool))) (sym (x.viewed size pool)))
+      (λ size pool. same size pool
+      ∙ ap (λ (y : links.Model). outcome expected (with_links y (view s size pool))) (sym (x.viewed size pool)))
       (holds_links held (changed_holds s.links held.links h g keeps x))
 
   -- other masks: t and a are the state and the answer of `put_masks`

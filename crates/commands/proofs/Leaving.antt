@@ -20,7 +20,8 @@ use Rattle.state.specs.State.{Model, le_event_enabled}
 use Rattle.state.specs.declared.Masks.{Masks}
 use Rattle.commands.specs.Parts.{with_links}
 use Rattle.commands.specs.Outcome.{Outcome, outcome, done, done_handle, at_link}
-use Rattle.commands.specs.Following.{le_meta_event, remote_version_complete, encryption_change, update_complete, connection_failed}
+use Rattle.commands.specs.Following.{le_meta_event, remote_version_complete, encryption_change}
+use Rattle.commands.specs.Following.{update_complete, connection_failed}
 use Rattle.commands.specs.Leaves.{Follows, follows_code, Modest, Leaves}
 
 -- ---- events that follow
@@ -43,7 +44,8 @@ pub behind_cond : (b : Bool) {x y : List ℕ} → Behind x → Behind y → Behi
 behind_cond true h k = h
 behind_cond false h k = k
 
-pub le_behind : (masks : Masks) (subevent : ℕ) (params : List ℕ) → length params ≤ 33 → Behind (le_meta_event masks subevent params)
+pub le_behind : (masks : Masks) (subevent : ℕ) (params : List ℕ) → length params ≤ 33
+    → Behind (le_meta_event masks subevent params)
 unfolding le_meta_event
 le_behind masks subevent params h =
     behind_cond (le_event_enabled masks subevent) (one_event 0x3E (meta_params subevent params) refl (omega arith)) no_event
@@ -56,7 +58,8 @@ pub encryption_behind : (masks : Masks) (handle : ℕ) → Behind (encryption_ch
 unfolding encryption_change
 encryption_behind masks handle = search (behind_cond, one_event, lit≤, tt, no_event)
 
-pub update_behind : (masks : Masks) (handle interval latency timeout : ℕ) → Behind (update_complete masks handle interval latency timeout)
+pub update_behind : (masks : Masks) (handle interval latency timeout : ℕ)
+    → Behind (update_complete masks handle interval latency timeout)
 update_behind masks handle interval latency timeout = le_behind masks 0x03 _ (omega arith)
 
 pub failed_behind : (masks : Masks) (code : ℕ) → Behind (connection_failed masks code)
@@ -81,7 +84,8 @@ pub no_answer : Modest silent
 no_answer = record { short = omega arith; told = omega arith; follows = inl refl }
 
 -- with an event behind it
-pub then_event : {octets : List ℕ} {a : AnswerModel} → Behind octets → Modest a → length a.octets ≤ 28 → Modest (followed octets a)
+pub then_event : {octets : List ℕ} {a : AnswerModel} → Behind octets → Modest a → length a.octets ≤ 28
+    → Modest (followed octets a)
 then_event b h few = record { short = omega (arith, b.short); told = h.told; follows = b.follows }
 
 -- a test, and the cases of a handle

@@ -4,11 +4,6 @@ pub mod Giving
 pub mod Reached
 pub mod Tables
 pub mod Leaving
-pub mod KnownLeaves
-pub mod AirLeaves
-pub mod LinkLeaves
-pub mod PrivacyLeaves
-pub mod TestLeaves
 pub mod TableLeaves
 pub mod CommandLeaves
 pub mod Marked

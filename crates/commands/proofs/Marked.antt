@@ -10,7 +10,8 @@ use Rattle.commands.specs.Command.{command, by_row, listed_row, modelled, other_
 use Rattle.commands.specs.Cases.{MarkedCases}
 
 pub marked_cases : MarkedCases
-unfolding connection_params_valid parse_command find command by_row listed_row modelled other_family family_of write_auth_payload_timeout payload_timeout_short set_advertising_data write_path_compensation
+unfolding connection_params_valid parse_command find command by_row listed_row modelled other_family family_of
+    write_auth_payload_timeout payload_timeout_short set_advertising_data write_path_compensation
 marked_cases = record {
   greatest_of20 = refl;
   greatest_of19 = refl;

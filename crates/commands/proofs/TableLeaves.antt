@@ -2,21 +2,37 @@
 -- flight; only 0x0C01 changes the event mask; and every answer is modest, Reset's too. For the laws of `command`.
 use mathlib.Core.Path.{◌≡◌, refl, subst}
 use Prim.Native.Nat.{ℕ}
-use mathlib.Core.List.{List, [], ◌∷◌, ◌++◌}
+use native.Mathlib.Omega.{arith}
+use mathlib.Core.List.{List, [], ◌∷◌, ◌++◌, reverse}
+use mathlib.Core.Bool.{true≢false}
 use lib.Dec.{eqb}
+use lib.ListN.{take, drop, length-reverse}
 use borrow.Author.Tests.{eqb-true, eqb-false}
 use borrow.Table.Steps.{cases}
+use Rattle.aes.specs.Aes.{cipher, aes128}
 use Rattle.state.specs.State.{Model}
 use Rattle.commands.specs.Outcome.{Given}
-use Rattle.commands.specs.Known.{reset}
+use Rattle.commands.specs.Known.{disconnect, read_remote_version, set_event_mask, reset, read_transmit_power, set_host_flow_control}
+use Rattle.commands.specs.Known.{host_buffer_size, host_completed_packets, set_event_mask_page2, read_auth_payload_timeout}
+use Rattle.commands.specs.Known.{write_auth_payload_timeout, read_local_version, read_supported_commands}
+use Rattle.commands.specs.Known.{read_supported_features, read_public_address, read_rssi}
+use Rattle.commands.specs.Air.{set_le_event_mask, read_buffer_size, read_local_features, set_random_address}
+use Rattle.commands.specs.Air.{set_advertising_parameters, read_advertising_power, set_advertising_data, set_scan_response_data}
+use Rattle.commands.specs.Air.{set_advertising_enable, set_scan_parameters, set_scan_enable, create_connection}
+use Rattle.commands.specs.Air.{create_connection_cancel, read_accept_list_size, clear_accept_list, add_to_accept_list}
+use Rattle.commands.specs.Air.{remove_from_accept_list}
+use Rattle.commands.specs.Link.{connection_update, set_host_channels, read_channel_map, read_remote_features, encrypt, rand}
+use Rattle.commands.specs.Link.{enable_encryption, long_term_key_reply, long_term_key_negative_reply, parameter_request_reply}
+use Rattle.commands.specs.Link.{parameter_request_negative_reply, set_data_length, read_suggested_data_length}
+use Rattle.commands.specs.Link.{write_suggested_data_length}
+use Rattle.commands.specs.Privacy.{add_to_resolving_list, remove_from_resolving_list, clear_resolving_list}
+use Rattle.commands.specs.Privacy.{read_resolving_list_size, read_resolvable_address, set_address_resolution, set_address_timeout}
+use Rattle.commands.specs.Privacy.{read_maximum_data_length, read_phy, set_default_phy, set_phy, set_privacy_mode}
+use Rattle.commands.specs.Test.{read_supported_states, start_test, test_end, read_maximum_advertising_length}
+use Rattle.commands.specs.Test.{read_advertising_sets, read_power_range, read_path_compensation, write_path_compensation}
 use Rattle.commands.specs.Table.{Row, no_row, find, known_rows, air_rows, link_rows, privacy_rows, test_rows, rows}
 use Rattle.commands.specs.Leaves.{Shaped, Modest, Leaves}
-use Rattle.commands.proofs.Leaving.{one_done, same_state}
-use Rattle.commands.proofs.KnownLeaves.{disconnect_leaves, read_remote_version_modest, set_event_mask_leaves, read_transmit_power_modest, set_host_flow_control_leaves, host_buffer_size_modest, host_completed_packets_modest, set_event_mask_page2_leaves, read_auth_payload_timeout_modest, write_auth_payload_timeout_leaves, read_local_version_modest, read_supported_commands_modest, read_supported_features_modest, read_public_address_modest, read_rssi_modest}
-use Rattle.commands.proofs.AirLeaves.{set_le_event_mask_leaves, read_buffer_size_modest, read_local_features_modest, set_random_address_leaves, set_advertising_parameters_leaves, read_advertising_power_modest, set_advertising_data_leaves, set_scan_response_data_leaves, set_advertising_enable_leaves, set_scan_parameters_leaves, set_scan_enable_leaves, create_connection_leaves, create_connection_cancel_leaves, read_accept_list_size_modest, clear_accept_list_leaves, add_to_accept_list_leaves, remove_from_accept_list_leaves}
-use Rattle.commands.proofs.LinkLeaves.{connection_update_leaves, set_host_channels_modest, read_channel_map_modest, read_remote_features_modest, encrypt_modest, rand_modest, enable_encryption_modest, long_term_key_reply_leaves, long_term_key_negative_reply_leaves, parameter_request_reply_leaves, parameter_request_negative_reply_modest, set_data_length_leaves, read_suggested_data_length_modest, write_suggested_data_length_leaves}
-use Rattle.commands.proofs.PrivacyLeaves.{add_to_resolving_list_leaves, remove_from_resolving_list_leaves, clear_resolving_list_leaves, read_resolving_list_size_modest, read_resolvable_address_modest, set_address_resolution_leaves, set_address_timeout_leaves, read_maximum_data_length_modest, read_phy_modest, set_default_phy_leaves, set_phy_leaves, set_privacy_mode_leaves}
-use Rattle.commands.proofs.TestLeaves.{read_supported_states_modest, start_test_leaves, test_end_leaves, read_maximum_advertising_length_modest, read_advertising_sets_modest, read_power_range_modest, read_path_compensation_modest, write_path_compensation_leaves}
+use Rattle.commands.proofs.Leaving.{one_done, completes, same_state, leaving}
 
 -- each row of a table has a property, P of its opcode and itself
 infixr 5 ◌also◌
@@ -41,104 +57,121 @@ abbrev pub RowLeaves : Given → ℕ → Row → Type 0
 RowLeaves g op r = (op ≡ 0x0C03 → ⊥) → (m : Model) → Leaves (eqb op 0x0C01) m (r.does g m)
 
 pub known_rows_lem : (g : Given) → Shaped g → EachRow (RowLeaves g) known_rows
+unfolding disconnect read_remote_version set_event_mask read_transmit_power set_host_flow_control host_buffer_size
+    host_completed_packets set_event_mask_page2 read_auth_payload_timeout write_auth_payload_timeout read_local_version
+    read_supported_commands read_supported_features read_public_address read_rssi
 known_rows_lem g shaped =
-    (λ _ m. disconnect_leaves g.params m)
-    also (λ _ m. same_state (read_remote_version_modest g.profile g.params m.masks m.links.connections))
-    also (λ _ m. set_event_mask_leaves g.params m)
+    (λ _ m. search leaving depth 8)
+    also (λ _ m. search leaving)
+    also (λ _ m. record { handles = refl; queue = refl; flying = refl; mask = λ e. absurd (true≢false e); answer = one_done _ })
     also (λ other m. absurd (other refl))
-    also (λ _ m. same_state (read_transmit_power_modest g.profile g.params m.links.connections))
-    also (λ _ m. set_host_flow_control_leaves g.params m)
-    also (λ _ m. same_state host_buffer_size_modest)
-    also (λ _ m. same_state (host_completed_packets_modest g.params))
-    also (λ _ m. set_event_mask_page2_leaves g.params m)
-    also (λ _ m. same_state (read_auth_payload_timeout_modest g.params m.links.connections))
-    also (λ _ m. write_auth_payload_timeout_leaves g.params m)
-    also (λ _ m. same_state (read_local_version_modest g.profile))
-    also (λ _ m. same_state (read_supported_commands_modest g.profile shaped.commands))
-    also (λ _ m. same_state (read_supported_features_modest g.profile shaped.features))
-    also (λ _ m. same_state (read_public_address_modest g.address shaped.address))
-    also (λ _ m. same_state (read_rssi_modest g.params m.links.connections))
+    also (λ _ m. search leaving)
+    also (λ _ m. search leaving)
+    also (λ _ m. search leaving)
+    also (λ _ m. search leaving)
+    also (λ _ m. search leaving)
+    also (λ _ m. search leaving)
+    also (λ _ m. search leaving depth 8)
+    also (λ _ m. search leaving)
+    also (λ _ m. same_state (completes _ (omega (arith, shaped.commands))))
+    also (λ _ m. same_state (completes _ (omega (arith, shaped.features))))
+    also (λ _ m. same_state (completes _ (omega (arith, shaped.address))))
+    also (λ _ m. search leaving)
     also no_rows
 
 pub air_rows_lem : (g : Given) → Shaped g → EachRow (RowLeaves g) air_rows
+unfolding set_le_event_mask read_buffer_size read_local_features set_random_address set_advertising_parameters
+    read_advertising_power set_advertising_data set_scan_response_data set_advertising_enable set_scan_parameters
+    set_scan_enable create_connection create_connection_cancel read_accept_list_size clear_accept_list add_to_accept_list
+    remove_from_accept_list
 air_rows_lem g shaped =
-    (λ _ m. set_le_event_mask_leaves g.params m)
-    also (λ _ m. same_state (read_buffer_size_modest g.profile))
-    also (λ _ m. same_state (read_local_features_modest g.profile))
-    also (λ _ m. set_random_address_leaves g.params m)
-    also (λ _ m. set_advertising_parameters_leaves g.params m)
-    also (λ _ m. same_state (read_advertising_power_modest g.profile))
-    also (λ _ m. set_advertising_data_leaves g.params m)
-    also (λ _ m. set_scan_response_data_leaves g.params m)
-    also (λ _ m. set_advertising_enable_leaves g.params m)
-    also (λ _ m. set_scan_parameters_leaves g.params m)
-    also (λ _ m. set_scan_enable_leaves g.params m)
-    also (λ _ m. create_connection_leaves g.params m)
-    also (λ _ m. create_connection_cancel_leaves m)
-    also (λ _ m. same_state (read_accept_list_size_modest g.profile))
-    also (λ _ m. clear_accept_list_leaves m)
-    also (λ _ m. add_to_accept_list_leaves g.profile g.params m)
-    also (λ _ m. remove_from_accept_list_leaves g.params m)
+    (λ _ m. search leaving)
+    also (λ _ m. search leaving)
+    also (λ _ m. search leaving)
+    also (λ _ m. search leaving)
+    also (λ _ m. search leaving)
+    also (λ _ m. search leaving)
+    also (λ _ m. search leaving)
+    also (λ _ m. search leaving)
+    also (λ _ m. search leaving)
+    also (λ _ m. search leaving)
+    also (λ _ m. search leaving)
+    also (λ _ m. search leaving)
+    also (λ _ m. search leaving)
+    also (λ _ m. search leaving)
+    also (λ _ m. search leaving)
+    also (λ _ m. search leaving depth 8)
+    also (λ _ m. search leaving)
     also no_rows
 
+-- of Encrypt: a block has sixteen octets, and as many when it is turned round
 pub link_rows_lem : (g : Given) → Shaped g → EachRow (RowLeaves g) link_rows
+unfolding connection_update set_host_channels read_channel_map read_remote_features encrypt aes128 cipher rand enable_encryption
+    long_term_key_reply long_term_key_negative_reply parameter_request_reply parameter_request_negative_reply
+    set_data_length read_suggested_data_length write_suggested_data_length
 link_rows_lem g shaped =
-    (λ _ m. connection_update_leaves g.params m)
-    also (λ _ m. same_state set_host_channels_modest)
-    also (λ _ m. same_state (read_channel_map_modest g.params m.links.connections))
-    also (λ _ m. same_state (read_remote_features_modest g.profile g.params m.masks m.links.connections))
-    also (λ _ m. same_state (encrypt_modest g.params))
-    also (λ _ m. same_state (rand_modest g.random))
-    also (λ _ m. same_state (enable_encryption_modest g.params m.masks m.links.connections))
-    also (λ _ m. long_term_key_reply_leaves g.params m)
-    also (λ _ m. long_term_key_negative_reply_leaves g.params m)
-    also (λ _ m. parameter_request_reply_leaves g.params m)
-    also (λ _ m. same_state (parameter_request_negative_reply_modest g.params m.links.connections))
-    also (λ _ m. set_data_length_leaves g.profile g.params m)
-    also (λ _ m. same_state (read_suggested_data_length_modest m.settings))
-    also (λ _ m. write_suggested_data_length_leaves g.params m)
+    (λ _ m. search leaving depth 8)
+    also (λ _ m. search leaving)
+    also (λ _ m. search leaving)
+    also (λ _ m. search leaving)
+    also (λ _ m. same_state (completes _ (omega (arith, length-reverse (aes128 (reverse (take 16 g.params)) (reverse (take 16 (drop 16 g.params))))))))
+    also (λ _ m. search leaving)
+    also (λ _ m. search leaving)
+    also (λ _ m. search leaving depth 8)
+    also (λ _ m. search leaving depth 8)
+    also (λ _ m. search leaving depth 8)
+    also (λ _ m. search leaving)
+    also (λ _ m. search leaving depth 8)
+    also (λ _ m. search leaving)
+    also (λ _ m. search leaving)
     also no_rows
 
 pub privacy_rows_lem : (g : Given) → Shaped g → EachRow (RowLeaves g) privacy_rows
+unfolding add_to_resolving_list remove_from_resolving_list clear_resolving_list read_resolving_list_size read_resolvable_address
+    set_address_resolution set_address_timeout read_maximum_data_length read_phy set_default_phy set_phy set_privacy_mode
 privacy_rows_lem g shaped =
-    (λ _ m. add_to_resolving_list_leaves g.profile g.params m)
-    also (λ _ m. remove_from_resolving_list_leaves g.params m)
-    also (λ _ m. clear_resolving_list_leaves m)
-    also (λ _ m. same_state (read_resolving_list_size_modest g.profile))
-    also (λ _ m. same_state read_resolvable_address_modest)
-    also (λ _ m. same_state read_resolvable_address_modest)
-    also (λ _ m. set_address_resolution_leaves g.params m)
-    also (λ _ m. set_address_timeout_leaves g.params m)
-    also (λ _ m. same_state (read_maximum_data_length_modest g.profile))
-    also (λ _ m. same_state (read_phy_modest g.params m.links.connections))
-    also (λ _ m. set_default_phy_leaves g.profile g.params m)
-    also (λ _ m. set_phy_leaves g.profile g.params m)
-    also (λ _ m. set_privacy_mode_leaves g.params m)
+    (λ _ m. search leaving depth 8)
+    also (λ _ m. search leaving)
+    also (λ _ m. search leaving)
+    also (λ _ m. search leaving)
+    also (λ _ m. search leaving)
+    also (λ _ m. search leaving)
+    also (λ _ m. search leaving)
+    also (λ _ m. search leaving)
+    also (λ _ m. search leaving)
+    also (λ _ m. search leaving)
+    also (λ _ m. search leaving)
+    also (λ _ m. search leaving depth 8)
+    also (λ _ m. search leaving depth 8)
     also no_rows
 
 pub test_rows_lem : (g : Given) → Shaped g → EachRow (RowLeaves g) test_rows
+unfolding read_supported_states start_test test_end read_maximum_advertising_length read_advertising_sets read_power_range
+    read_path_compensation write_path_compensation
 test_rows_lem g shaped =
-    (λ _ m. same_state (read_supported_states_modest g.profile shaped.states))
-    also (λ _ m. start_test_leaves _ _ _ _ _ m)
-    also (λ _ m. start_test_leaves _ _ _ _ _ m)
-    also (λ _ m. test_end_leaves m)
-    also (λ _ m. start_test_leaves _ _ _ _ _ m)
-    also (λ _ m. start_test_leaves _ _ _ _ _ m)
-    also (λ _ m. same_state (read_maximum_advertising_length_modest g.profile))
-    also (λ _ m. same_state (read_advertising_sets_modest g.profile))
-    also (λ _ m. same_state (read_power_range_modest g.profile))
-    also (λ _ m. same_state (read_path_compensation_modest m.settings))
-    also (λ _ m. write_path_compensation_leaves g.params m)
+    (λ _ m. same_state (completes _ (omega (arith, shaped.states))))
+    also (λ _ m. search leaving depth 8)
+    also (λ _ m. search leaving depth 8)
+    also (λ _ m. search leaving)
+    also (λ _ m. search leaving depth 8)
+    also (λ _ m. search leaving depth 8)
+    also (λ _ m. search leaving)
+    also (λ _ m. search leaving)
+    also (λ _ m. search leaving)
+    also (λ _ m. search leaving)
+    also (λ _ m. search leaving)
     also no_rows
 
-pub rows_leave : (g : Given) → Shaped g → (op : ℕ) → (op ≡ 0x0C03 → ⊥) → (m : Model) → Leaves (eqb op 0x0C01) m ((find op rows).does g m)
+pub rows_leave : (g : Given) → Shaped g → (op : ℕ) → (op ≡ 0x0C03 → ⊥) → (m : Model)
+    → Leaves (eqb op 0x0C01) m ((find op rows).does g m)
 rows_leave g shaped op =
     each_find op
-    (each_append (known_rows_lem g shaped)
-    (each_append (air_rows_lem g shaped) (each_append (link_rows_lem g shaped) (each_append (privacy_rows_lem g shaped) (test_rows_lem g shaped)))))
+    (each_append (known_rows_lem g shaped) (each_append (air_rows_lem g shaped)
+    (each_append (link_rows_lem g shaped) (each_append (privacy_rows_lem g shaped) (test_rows_lem g shaped)))))
     (λ _ m. same_state (one_done _))
 
 pub rows_modest : (g : Given) → Shaped g → (op : ℕ) (m : Model) → Modest ((find op rows).does g m).answer
 unfolding find reset
 rows_modest g shaped op m =
-    cases (eqb op 0x0C03) (λ e. rw (eqb-true op 0x0C03 e) (one_done _)) (λ e. (rows_leave g shaped op (eqb-false op 0x0C03 e) m).answer)
+    cases (eqb op 0x0C03) (λ e. rw (eqb-true op 0x0C03 e) (one_done _))
+    (λ e. (rows_leave g shaped op (eqb-false op 0x0C03 e) m).answer)

@@ -1,5 +1,5 @@
--- The table of commands: the code's two arrays are its first two columns, and an opcode is found where its place says. For the code
--- of the table, for `dispatch` and for `command`.
+-- The table of commands: the code's two arrays are its first two columns, and an opcode is found where its place says. For the
+-- code of the table, for `dispatch` and for `command`.
 use mathlib.Core.Path.{◌≡◌, refl, sym, ◌∙◌}
 use Prim.Native.Nat.{ℕ, ◌≤◌, ◌<◌}
 use native.Mathlib.Omega.{arith}
@@ -29,7 +29,8 @@ told (octets n) = ltb n 256
 told any = true
 told never = false
 
-told_fits : (size : Size) (n : ℕ) → told size ≡ true → fits size n ≡ cond (eqb (size_number size) 256) true (eqb n (size_number size))
+told_fits : (size : Size) (n : ℕ) → told size ≡ true
+    → fits size n ≡ cond (eqb (size_number size) 256) true (eqb n (size_number size))
 told_fits (octets k) n e = rw (ne_eqb k 256 (λ same. omega (arith, ltb-true k 256 e)))
 told_fits any n e = refl
 told_fits never n e = absurd (true≢false (sym e))
@@ -42,7 +43,8 @@ all_told = refl
 pub size_at : (i n number : ℕ) → number ≡ get_or (map row_number rows) i number → i < 71
     → fits (get_or rows i no_row).size n ≡ cond (eqb number 256) true (eqb n number)
 size_at i n number e h =
-    let same : number ≡ row_number (get_or rows i no_row) = e ∙ get_or_default (map row_number rows) i number 0 h ∙ get_or-map row_number rows i no_row in
+    let same : number ≡ row_number (get_or rows i no_row) =
+    e ∙ get_or_default (map row_number rows) i number 0 h ∙ get_or-map row_number rows i no_row in
     rw same (told_fits (get_or rows i no_row).size n (all_at (λ r. told r.size) rows i no_row all_told h))
 
 -- past the table no size fits

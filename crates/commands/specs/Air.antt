@@ -9,7 +9,9 @@ use Rattle.answers.specs.Answers.{AnswerModel, complete, status, followed}
 use Rattle.filters.specs.Filters.{accept_entry, added, is_full, removed}
 use Rattle.state.specs.State.{Model, busy, accept_list_in_use, with_data, with_scan_response}
 use Rattle.commands.specs.Status.{success, unknown_connection, memory_capacity_exceeded, command_disallowed, invalid_parameters}
-use Rattle.commands.specs.Parts.{with_masks, with_settings, with_advertising, with_scanning, with_accept_list, with_le_event_mask, with_random_address, with_params, with_enabled, with_scan_params, with_scan_enable, with_initiating}
+use Rattle.commands.specs.Parts.{with_masks, with_settings, with_advertising, with_scanning, with_accept_list}
+use Rattle.commands.specs.Parts.{with_le_event_mask, with_random_address, with_params, with_enabled}
+use Rattle.commands.specs.Parts.{with_scan_params, with_scan_enable, with_initiating}
 use Rattle.commands.specs.Outcome.{Outcome, outcome, done}
 use Rattle.commands.specs.Checks.{within, connection_params_valid}
 use Rattle.commands.specs.Following.{connection_failed}

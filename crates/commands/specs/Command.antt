@@ -49,7 +49,8 @@ modelled g op m =
 unfoldable pub listed_row : Given → ℕ → ℕ → Model → Outcome
 listed_row g answer op m =
     cond (other_family op m)
-    (outcome (cond (eqb op 0x2007) (complete (command_disallowed ∷ octet_of g.profile.adv_tx_power ∷ [])) (refused op command_disallowed)) m)
+    (outcome (cond (eqb op 0x2007) (complete (command_disallowed ∷ octet_of g.profile.adv_tx_power ∷ []))
+    (refused op command_disallowed)) m)
     (cond (eqb answer 1) (outcome (refused op unsupported_feature) (with_family op m))
     (modelled g op (with_family op m)))
 
@@ -84,7 +85,10 @@ abbrev pub command_octets : Given → ℕ → ℕ → Model → List ℕ
 command_octets g answer op m = octets_of g.profile.num_command_packets op (command g answer op m).answer
 
 -- what `command` gives: the state t, and n octets at the front of the buffer, which is `after` then
-pub record Commands (g : Given) (opcodes answers : List ℕ) (op : ℕ) (s t : Controller) (out : List ℕ) (n : ℕ) (after : List ℕ) : Type 0 where
-  pub viewed : (size : ℕ) (pool : List ℕ) → view t size pool ≡ (command g (row_answer opcodes answers op) op (view s size pool)).state
-  pub written : (size : ℕ) (pool : List ℕ) → Put out 0 (command_octets g (row_answer opcodes answers op) op (view s size pool)) n after
+pub record Commands (g : Given) (opcodes answers : List ℕ) (op : ℕ) (s t : Controller)
+    (out : List ℕ) (n : ℕ) (after : List ℕ) : Type 0 where
+  pub viewed : (size : ℕ) (pool : List ℕ)
+      → view t size pool ≡ (command g (row_answer opcodes answers op) op (view s size pool)).state
+  pub written : (size : ℕ) (pool : List ℕ)
+      → Put out 0 (command_octets g (row_answer opcodes answers op) op (view s size pool)) n after
   pub held : StateHolds t g.profile

@@ -1,5 +1,6 @@
 -- The commands of `known`: link control, controller and baseband, informational and status parameters (Core Vol 4 Part E
--- sections 7.1, 7.3, 7.4 and 7.5). p are a command's parameter octets, cs the connections; tests stand in the order of the source.
+-- sections 7.1, 7.3, 7.4 and 7.5). p are a command's parameter octets, cs the connections; tests stand in the order of the
+-- source.
 use Rattle.std.specs.Prelude.{ℕ, ◌+◌, ◌*◌, List, [], ◌∷◌, ◌++◌, Bool, cond, not, ◌||◌, eqb, ltb, pos, length}
 use Rattle.octets.specs.Octets.{octet, word, le, number_at}
 use Rattle.lists.specs.Lists.{any}
@@ -13,7 +14,8 @@ use Rattle.links.specs.Fields.{with_terminating, with_auth_payload_timeout}
 use Rattle.state.specs.State.{Model, reset_model}
 use Rattle.state.specs.declared.Masks.{Masks}
 use Rattle.commands.specs.Status.{success, unknown_connection, command_disallowed, invalid_parameters}
-use Rattle.commands.specs.Parts.{with_masks, with_settings, with_links, with_event_mask, with_event_mask_page2, with_host_flow_control}
+use Rattle.commands.specs.Parts.{with_masks, with_settings, with_links}
+use Rattle.commands.specs.Parts.{with_event_mask, with_event_mask_page2, with_host_flow_control}
 use Rattle.commands.specs.Outcome.{Outcome, outcome, done, done_handle, at_link}
 use Rattle.commands.specs.Following.{remote_version_complete}
 
@@ -37,8 +39,8 @@ disconnect p m =
 unfoldable pub read_remote_version : ControllerRow → List ℕ → Masks → List Connection → AnswerModel
 read_remote_version k p masks cs =
     cond (has (word p 0) cs)
-    (followed (remote_version_complete masks (success ∷ le 2 (word p 0) ++ k.lmp_version ∷ le 2 k.company ++ le 2 k.lmp_subversion))
-    (status success))
+    (followed (remote_version_complete masks
+    (success ∷ le 2 (word p 0) ++ k.lmp_version ∷ le 2 k.company ++ le 2 k.lmp_subversion)) (status success))
     (status unknown_connection)
 
 -- 7.3.1 Set Event Mask (0x0C01)

@@ -107,7 +107,8 @@ new_time k p = min (word p 4) k.max_tx_time
 abbrev pub data_length_change : ControllerRow → List ℕ → Masks → Connection → List ℕ
 data_length_change k p masks c =
     cond (eqb c.tx_octets (new_octets k p) && eqb c.tx_time (new_time k p)) []
-    (le_meta_event masks 0x07 (le 2 (word p 0) ++ le 2 (new_octets k p) ++ le 2 (new_time k p) ++ le 2 k.max_tx_octets ++ le 2 k.max_tx_time))
+    (le_meta_event masks 0x07
+    (le 2 (word p 0) ++ le 2 (new_octets k p) ++ le 2 (new_time k p) ++ le 2 k.max_tx_octets ++ le 2 k.max_tx_time))
 
 -- 7.8.33 LE Set Data Length (0x2022): the values, then the handle
 unfoldable pub set_data_length : ControllerRow → List ℕ → Model → Outcome

@@ -13,8 +13,10 @@ use Rattle.links.specs.Links.{changed}
 use Rattle.links.specs.Look.{connection_of}
 use Rattle.links.specs.Fields.{with_phys}
 use Rattle.state.specs.State.{Model, busy}
-use Rattle.commands.specs.Status.{success, unknown_connection, memory_capacity_exceeded, command_disallowed, unsupported_feature, invalid_parameters}
-use Rattle.commands.specs.Parts.{with_settings, with_resolving_list, with_links, with_address_resolution, with_rpa_timeout, with_default_phy}
+use Rattle.commands.specs.Status.{success, unknown_connection, memory_capacity_exceeded, command_disallowed}
+use Rattle.commands.specs.Status.{unsupported_feature, invalid_parameters}
+use Rattle.commands.specs.Parts.{with_settings, with_resolving_list, with_links}
+use Rattle.commands.specs.Parts.{with_address_resolution, with_rpa_timeout, with_default_phy}
 use Rattle.commands.specs.Outcome.{Outcome, outcome, done, at_link}
 use Rattle.commands.specs.Checks.{within, phys}
 use Rattle.commands.specs.Following.{le_meta_event}
@@ -109,8 +111,8 @@ set_default_phy k p m =
     (cond (phy_preference_unsupported k (octet p 0) (octet p 1) (octet p 2)) (outcome (done unsupported_feature) m)
     (outcome (done success) (with_settings (with_default_phy p m.settings) m)))
 
--- the PHY that a link takes: without a preference the one it has; else LE 2M (2), LE 1M (1), LE Coded (3), in this order, of those
--- that the host allows and the controller has, and LE 1M where there is none
+-- the PHY that a link takes: without a preference the one it has; else LE 2M (2), LE 1M (1), LE Coded (3), in this order, of
+-- those that the host allows and the controller has, and LE 1M where there is none
 unfoldable pub phy_picked : ControllerRow → Bool → ℕ → ℕ → ℕ
 phy_picked k any allowed current =
     cond any current
@@ -127,7 +129,8 @@ receiving_phy k p c = phy_picked k (any_receiving (octet p 2)) (octet p 4) c.rx_
 unfoldable pub set_phy : ControllerRow → List ℕ → Model → Outcome
 set_phy k p m =
     at_link (connection_of (word p 0) m.links.connections) (outcome (status unknown_connection) m)
-    (λ c. outcome (followed (le_meta_event m.masks 0x0C (success ∷ le 2 (word p 0) ++ sending_phy k p c ∷ receiving_phy k p c ∷ [])) (status success))
+    (λ c. outcome (followed (le_meta_event m.masks 0x0C
+    (success ∷ le 2 (word p 0) ++ sending_phy k p c ∷ receiving_phy k p c ∷ [])) (status success))
     (with_links (changed (word p 0) (with_phys (sending_phy k p c) (receiving_phy k p c)) m.links) m))
 
 -- 7.8.77 LE Set Privacy Mode (0x204E): locked, mode, presence
@@ -136,4 +139,5 @@ set_privacy_mode p m =
     cond (locked m) (outcome (done command_disallowed) m)
     (cond (ltb 1 (octet p 7)) (outcome (done invalid_parameters) m)
     (cond (not (listed p m)) (outcome (done unknown_connection) m)
-    (outcome (done success) (with_resolving_list (update_first (has_identity (take 7 p)) (with_mode (octet p 7)) m.resolving_list) m))))
+    (outcome (done success)
+    (with_resolving_list (update_first (has_identity (take 7 p)) (with_mode (octet p 7)) m.resolving_list) m))))

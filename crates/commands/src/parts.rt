@@ -7,7 +7,8 @@ ghost use Rattle.state.specs.declared.Recent.{Recent};
 ghost use Rattle.state.specs.declared.Settings.{Settings};
 ghost use Rattle.answers.specs.Answers.{status};
 ghost use Rattle.commands.specs.Outcome.{Answers, done, done_handle};
-ghost use Rattle.commands.specs.Put.{put_masks, put_settings, put_advertising, put_scanning, put_accept_list, put_resolving_list, put_links, put_counters, noted_in};
+ghost use Rattle.commands.specs.Put.{put_masks, put_settings, put_advertising, put_scanning, put_accept_list};
+ghost use Rattle.commands.specs.Put.{put_resolving_list, put_links, put_counters, noted_in};
 
 use answers::Answer;
 use filters::{AcceptList, ResolvingList};
@@ -20,6 +21,7 @@ pub struct Answered<P> {
     pub answer: Answer,
 }
 
+// A method for each kind of answer: one that were handed how to make it would be called by more words than it saves.
 impl<P> Answered<P> {
     // The part as it is to be, refused or not, and a status.
     pub fn done(part: P, code: u8) -> Answered<P>
@@ -60,7 +62,9 @@ pub trait StatePart: Copy {
     fn put(self, s: Controller) -> Controller
         ensures { result ≡ put self s };
 
-    ghost noted_after: { (x : Self) (s : Controller) (counters before : Counters) (settings family : Settings) (recent : Recent) → noted_in counters settings recent (put x (put_settings family (put_counters before s))) ≡ noted_in counters settings recent (put x s) };
+    ghost noted_after: { (x : Self) (s : Controller) (counters before : Counters) (settings family : Settings) (recent : Recent)
+        → noted_in counters settings recent (put x (put_settings family (put_counters before s)))
+        ≡ noted_in counters settings recent (put x s) };
 }
 
 impl StatePart for Masks {
