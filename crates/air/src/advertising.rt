@@ -1,8 +1,10 @@
 // Legacy advertising: its parameters, its data and whether it is on.
-ghost use Rattle.std.specs.Prelude.{◌≡◌, ◌&&◌, List, ℕ, eqb, length, replicate};
+ghost use Rattle.std.specs.Prelude.{◌≡◌, ◌≤◌, ◌<◌, ◌&&◌, List, ℕ, eqb, take, drop, replicate, MatchOption};
+ghost use Rattle.octets.specs.Octets.{octet};
 ghost use Rattle.lists.specs.Lists.{same_list};
 ghost use Rattle.state.specs.State.{view};
-ghost use Rattle.commands.specs.Air.{advertising_intervals_valid, advertising_parameters_valid, set_advertising_parameters, set_advertising_data, set_scan_response_data, set_advertising_enable, no_random_address};
+ghost use Rattle.commands.specs.Air.{advertising_intervals_valid, advertising_parameters_valid, set_advertising_parameters};
+ghost use Rattle.commands.specs.Air.{set_advertising_data, set_scan_response_data, set_advertising_enable, no_random_address};
 ghost use Rattle.commands.specs.Outcome.{GivesAny};
 ghost use Rattle.commands.specs.Put.{put_advertising};
 
@@ -12,8 +14,7 @@ use state::{Advertising, Controller};
 
 // High duty cycle directed advertising (type 1) has no intervals.
 #[tactic(auto, unfolding(commands::specs::Air::advertising_intervals_valid))]
-fn advertising_intervals_valid(p: &[u8]) -> bool
-    requires { length p.now ≡ 15 }
+fn advertising_intervals_valid(p: &[u8; 15]) -> bool
     ensures { result ≡ advertising_intervals_valid p.now }
 {
     let least = octets::word_at(p, 0);
@@ -25,8 +26,7 @@ fn advertising_intervals_valid(p: &[u8]) -> bool
 }
 
 #[tactic(auto, unfolding(commands::specs::Air::advertising_parameters_valid))]
-fn advertising_parameters_valid(p: &[u8]) -> bool
-    requires { length p.now ≡ 15 }
+fn advertising_parameters_valid(p: &[u8; 15]) -> bool
     ensures { result ≡ advertising_parameters_valid p.now }
 {
     advertising_intervals_valid(p)
@@ -39,8 +39,7 @@ fn advertising_parameters_valid(p: &[u8]) -> bool
 
 // LE Set Advertising Parameters (section 7.8.5): not while advertising.
 #[tactic(auto, unfolding(commands::specs::Air::set_advertising_parameters))]
-pub fn set_advertising_parameters(s: Controller, p: &[u8]) -> Answered<Advertising>
-    requires { length p.now ≡ 15 }
+pub fn set_advertising_parameters(s: Controller, p: &[u8; 15]) -> Answered<Advertising>
     ensures { GivesAny (set_advertising_parameters p.now) s (put_advertising result.part s) result.answer }
 {
     let mut advertising = s.advertising;
@@ -54,35 +53,39 @@ pub fn set_advertising_parameters(s: Controller, p: &[u8]) -> Answered<Advertisi
     Answered::done(advertising, SUCCESS)
 }
 
-// LE Set Advertising Data (section 7.8.7): a length, then that many octets and padding.
-#[tactic(auto, unfolding(commands::specs::Air::set_advertising_data))]
-pub fn set_advertising_data(s: Controller, p: &[u8]) -> Answered<Advertising>
-    requires { length p.now ≡ 32 }
-    ensures { GivesAny (set_advertising_data p.now) s (put_advertising result.part s) result.answer }
+// What advertising data or a scan response is to be: a length, then that many octets and padding. None where the length is too
+// long.
+fn load_of(p: &[u8; 32]) -> Option<&[u8]>
+    ensures { MatchOption result (31 < octet p.now 0)
+        (λ load. (octet p.now 0 ≤ 31) × (load.now ≡ take (octet p.now 0) (drop 1 p.now))) }
 {
-    let advertising = s.advertising;
     let data_len = usize::from(p[0]);
     if data_len > 31 {
-        return Answered::done(advertising, INVALID_PARAMETERS);
+        return None;
     }
-    Answered::done(advertising.with_data(&p[1..1 + data_len]), SUCCESS)
+    Some(&p[1..1 + data_len])
+}
+
+// LE Set Advertising Data (section 7.8.7).
+#[tactic(auto, unfolding(commands::specs::Air::set_advertising_data))]
+pub fn set_advertising_data(s: Controller, p: &[u8; 32]) -> Answered<Advertising>
+    ensures { GivesAny (set_advertising_data p.now) s (put_advertising result.part s) result.answer }
+{
+    match load_of(p) {
+        Some(load) => Answered::done(s.advertising.with_data(load), SUCCESS),
+        None => Answered::done(s.advertising, INVALID_PARAMETERS),
+    }
 }
 
 // LE Set Scan Response Data (section 7.8.8).
 #[tactic(auto, unfolding(commands::specs::Air::set_scan_response_data))]
-pub fn set_scan_response_data(s: Controller, p: &[u8]) -> Answered<Advertising>
-    requires { length p.now ≡ 32 }
+pub fn set_scan_response_data(s: Controller, p: &[u8; 32]) -> Answered<Advertising>
     ensures { GivesAny (set_scan_response_data p.now) s (put_advertising result.part s) result.answer }
 {
-    let advertising = s.advertising;
-    let response_len = usize::from(p[0]);
-    if response_len > 31 {
-        return Answered::done(advertising, INVALID_PARAMETERS);
+    match load_of(p) {
+        Some(load) => Answered::done(s.advertising.with_scan_response(load), SUCCESS),
+        None => Answered::done(s.advertising, INVALID_PARAMETERS),
     }
-    Answered::done(
-        advertising.with_scan_response(&p[1..1 + response_len]),
-        SUCCESS,
-    )
 }
 
 // A random address of six zeroes counts as none: so it stands before one is set.
@@ -100,20 +103,14 @@ fn lacks_address(s: Controller, enable: u8) -> bool
 }
 
 // LE Set Advertising Enable (section 7.8.9).
-pub fn set_advertising_enable(s: Controller, p: &[u8]) -> Answered<Advertising>
-    requires { length p.now ≡ 1 }
+pub fn set_advertising_enable(s: Controller, p: &[u8; 1]) -> Answered<Advertising>
     ensures { GivesAny (set_advertising_enable p.now) s (put_advertising result.part s) result.answer }
 {
-    let advertising = s.advertising;
-    let enabled = p[0];
+    let mut advertising = s.advertising;
+    let [enabled] = *p;
     if enabled > 1 || lacks_address(s, enabled) {
         return Answered::done(advertising, INVALID_PARAMETERS);
     }
-    Answered::done(
-        Advertising {
-            enabled,
-            ..advertising
-        },
-        SUCCESS,
-    )
+    advertising.enabled = enabled;
+    Answered::done(advertising, SUCCESS)
 }

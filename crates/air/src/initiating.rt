@@ -1,5 +1,5 @@
 // Initiating a connection, and giving it up.
-ghost use Rattle.std.specs.Prelude.{◌≡◌, not, ◌||◌, leb, eqb, length};
+ghost use Rattle.std.specs.Prelude.{◌≡◌, not, ◌||◌, leb, eqb};
 ghost use Rattle.commands.specs.Air.{create_connection_valid, create_connection, create_connection_cancel};
 ghost use Rattle.commands.specs.Outcome.{GivesAny};
 ghost use Rattle.commands.specs.Put.{put_scanning};
@@ -18,8 +18,7 @@ fn peer_type_valid(filter: u8, peer_type: u8) -> bool
 
 // Scan interval and window, filter policy, own address type, the peer's, then the four connection parameters.
 #[tactic(auto, unfolding(commands::specs::Air::create_connection_valid))]
-fn create_connection_valid(p: &[u8]) -> bool
-    requires { length p.now ≡ 25 }
+fn create_connection_valid(p: &[u8; 25]) -> bool
     ensures { result ≡ create_connection_valid p.now }
 {
     let filter = p[4];
@@ -37,23 +36,19 @@ fn create_connection_valid(p: &[u8]) -> bool
 
 // LE Create Connection (section 7.8.12): not while initiating; then its parameters. The filter policy is kept.
 #[tactic(auto, unfolding(commands::specs::Air::create_connection))]
-pub fn create_connection(s: Controller, p: &[u8]) -> Answered<Scanning>
-    requires { length p.now ≡ 25 }
+pub fn create_connection(s: Controller, p: &[u8; 25]) -> Answered<Scanning>
     ensures { GivesAny (create_connection p.now) s (put_scanning result.part s) result.answer }
 {
-    let scanning = s.scanning;
+    let mut scanning = s.scanning;
     if scanning.initiating != 0 {
         return Answered::status(scanning, COMMAND_DISALLOWED);
     }
     if !create_connection_valid(p) {
         return Answered::status(scanning, INVALID_PARAMETERS);
     }
-    let started = Scanning {
-        initiating: 1,
-        initiator_filter: p[4],
-        ..scanning
-    };
-    Answered::status(started, SUCCESS)
+    scanning.initiating = 1;
+    scanning.initiator_filter = p[4];
+    Answered::status(scanning, SUCCESS)
 }
 
 // LE Create Connection Cancel (section 7.8.13): the event that the connection failed follows.
@@ -61,16 +56,14 @@ pub fn create_connection(s: Controller, p: &[u8]) -> Answered<Scanning>
 pub fn create_connection_cancel(s: Controller) -> Answered<Scanning>
     ensures { GivesAny create_connection_cancel s (put_scanning result.part s) result.answer }
 {
-    let scanning = s.scanning;
+    let mut scanning = s.scanning;
     if scanning.initiating == 0 {
         return Answered::done(scanning, COMMAND_DISALLOWED);
     }
+    scanning.initiating = 0;
     let done = answers::done(SUCCESS);
     Answered {
-        part: Scanning {
-            initiating: 0,
-            ..scanning
-        },
+        part: scanning,
         answer: commands::followed_by_connection_failed(done, s.masks, UNKNOWN_CONNECTION),
     }
 }

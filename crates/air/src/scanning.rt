@@ -1,5 +1,5 @@
 // Legacy scanning: its parameters and whether it is on.
-ghost use Rattle.std.specs.Prelude.{◌≡◌, ◌&&◌, leb, length};
+ghost use Rattle.std.specs.Prelude.{◌≡◌, ◌&&◌, leb};
 ghost use Rattle.commands.specs.Air.{scan_parameters_valid, set_scan_parameters, set_scan_enable};
 ghost use Rattle.commands.specs.Checks.{within};
 ghost use Rattle.commands.specs.Outcome.{GivesAny};
@@ -19,8 +19,7 @@ pub fn scan_times_valid(interval: u16, window: u16) -> bool
 }
 
 #[tactic(auto, unfolding(commands::specs::Air::scan_parameters_valid))]
-fn scan_parameters_valid(p: &[u8]) -> bool
-    requires { length p.now ≡ 7 }
+fn scan_parameters_valid(p: &[u8; 7]) -> bool
     ensures { result ≡ scan_parameters_valid p.now }
 {
     p[0] <= 1
@@ -31,8 +30,7 @@ fn scan_parameters_valid(p: &[u8]) -> bool
 
 // LE Set Scan Parameters (section 7.8.10): not while scanning.
 #[tactic(auto, unfolding(commands::specs::Air::set_scan_parameters))]
-pub fn set_scan_parameters(s: Controller, p: &[u8]) -> Answered<Scanning>
-    requires { length p.now ≡ 7 }
+pub fn set_scan_parameters(s: Controller, p: &[u8; 7]) -> Answered<Scanning>
     ensures { GivesAny (set_scan_parameters p.now) s (put_scanning result.part s) result.answer }
 {
     let mut scanning = s.scanning;
@@ -48,8 +46,7 @@ pub fn set_scan_parameters(s: Controller, p: &[u8]) -> Answered<Scanning>
 
 // LE Set Scan Enable (section 7.8.11).
 #[tactic(auto, unfolding(commands::specs::Air::set_scan_enable))]
-pub fn set_scan_enable(s: Controller, p: &[u8]) -> Answered<Scanning>
-    requires { length p.now ≡ 2 }
+pub fn set_scan_enable(s: Controller, p: &[u8; 2]) -> Answered<Scanning>
     ensures { GivesAny (set_scan_enable p.now) s (put_scanning result.part s) result.answer }
 {
     let mut scanning = s.scanning;

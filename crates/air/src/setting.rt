@@ -1,5 +1,5 @@
 // The LE event mask and the random address.
-ghost use Rattle.std.specs.Prelude.{◌≡◌, length};
+ghost use Rattle.std.specs.Prelude.{◌≡◌};
 ghost use Rattle.octets.specs.Octets.{number_at};
 ghost use Rattle.commands.specs.Air.{set_random_address};
 ghost use Rattle.commands.specs.Outcome.{GivesAny};
@@ -10,9 +10,8 @@ use commands::Answered;
 use hci::status::{COMMAND_DISALLOWED, SUCCESS};
 use state::{Controller, Masks, Settings};
 
-// LE Set Event Mask (section 7.8.1).
-pub fn set_le_event_mask(masks: Masks, p: &[u8]) -> Masks
-    requires { length p.now ≡ 8 }
+// LE Set Event Mask (section 7.8.1). A function for each mask, as `known` says.
+pub fn set_le_event_mask(masks: Masks, p: &[u8; 8]) -> Masks
     ensures { result ≡ with_le_event_mask (number_at 8 p.now 0) masks }
 {
     Masks {
@@ -22,8 +21,7 @@ pub fn set_le_event_mask(masks: Masks, p: &[u8]) -> Masks
 }
 
 // LE Set Random Address (section 7.8.4): not while the link layer is busy.
-pub fn set_random_address(s: Controller, p: &[u8]) -> Answered<Settings>
-    requires { length p.now ≡ 6 }
+pub fn set_random_address(s: Controller, p: &[u8; 6]) -> Answered<Settings>
     ensures { GivesAny (set_random_address p.now) s (put_settings result.part s) result.answer }
 {
     let mut settings = s.settings;

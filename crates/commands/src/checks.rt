@@ -1,5 +1,5 @@
 // Tests of parameters that more than one command makes, and numbers of eight octets.
-ghost use Rattle.std.specs.Prelude.{◌≡◌, ◌+◌, ◌*◌, ltb, length};
+ghost use Rattle.std.specs.Prelude.{◌≡◌, ◌+◌, ◌*◌, ltb};
 ghost use Rattle.octets.specs.Octets.{le, number_at};
 ghost use Rattle.commands.specs.Checks.{connection_params_valid, data_length_valid};
 ghost use Rattle.commands.specs.Checks.{within as is_within};
@@ -55,11 +55,10 @@ pub fn phys(profile: ControllerRow) -> u8
 }
 
 // A number of eight octets, low octet first.
-pub fn long_at(p: &[u8]) -> u64
-    requires { length p.now ≡ 8 }
+pub fn long_at(p: &[u8; 8]) -> u64
     ensures { result ≡ number_at 8 p.now 0 }
 {
-    u64::from_le_bytes([p[0], p[1], p[2], p[3], p[4], p[5], p[6], p[7]])
+    u64::from_le_bytes(*p)
 }
 
 // The eight octets of a number, low octet first.

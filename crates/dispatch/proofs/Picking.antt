@@ -1,5 +1,5 @@
--- The last arm of a match on an opcode, which stands for the last opcode of its rows: no other is left for it, since `requires` says
--- that a row has the opcode.
+-- The last arm of a match on an opcode, which stands for the last opcode of its rows: no other is left for it, since `requires`
+-- says that a row has the opcode.
 use mathlib.Core.Path.{◌≡◌}
 use Prim.Native.Nat.{ℕ}
 use mathlib.Core.List.{List, [], ◌∷◌}
@@ -22,7 +22,8 @@ last_opcode (r ∷ []) = r.opcode
 last_opcode (r ∷ (next ∷ l)) = last_opcode (next ∷ l)
 
 -- an opcode that is none of those before and not the last is none at all
-passed_last : (op : ℕ) (before : Type 0) (l : List Row) → Passed op before (but_last l) → (op ≡ last_opcode l → ⊥) → Passed op before l
+passed_last : (op : ℕ) (before : Type 0) (l : List Row) → Passed op before (but_last l) → (op ≡ last_opcode l → ⊥)
+    → Passed op before l
 passed_last op before [] x other = x
 passed_last op before (r ∷ []) x other = (x, other)
 passed_last op before (r ∷ (next ∷ l)) x other = passed_last op (before × (op ≡ r.opcode → ⊥)) (next ∷ l) x other

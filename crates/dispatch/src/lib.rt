@@ -1,8 +1,8 @@
 // Which function carries out a command. A command that changes the state changes one part of it, and each part carries out its
 // own commands (`CommandPart`): it picks the command by its opcode and gives the new part beside the answer, so that the state
-// itself is put together once, by `command`. Commands that change nothing have `read`. Each arm of a match hands on what its command
-// needs: a table of functions would hand all of it to each, and is no plainer. Contracts cite `specs/Parts.antt` and the table of
-// commands, `specs/Table.antt` of the crate `commands`.
+// itself is put together once, by `command`. Commands that change nothing have `read`. Each arm of a match hands on what its
+// command needs: a table of functions would hand all of it to each, and is no plainer. Contracts cite `specs/Parts.antt` and the
+// table of commands, `specs/Table.antt` of the crate `commands`.
 #![tactic(auto)]
 
 ghost use Rattle.std.specs.Prelude.{◌≡◌, ◌<◌, ℕ, List, true, length, get_or};
@@ -45,6 +45,14 @@ pub trait CommandPart: StatePart {
         ensures { (address : List ℕ) (random : ℕ)
             → Gives ((find op (rows_of part)).does (given profile address random p.now))
             profile s (Self.put result.part s) result.answer };
+}
+
+// The parameters as an array, whose length is the one that the command's row in the table says.
+fn exactly<const N: usize>(p: &[u8]) -> &[u8; N]
+    requires { length p.now ≡ N }
+    ensures { result.now ≡ p.now }
+{
+    p.as_array().unwrap()
 }
 
 // The part for each place of the table of commands.

@@ -1,7 +1,7 @@
 // The commands that change a link, and Reset.
 ghost use Rattle.dispatch.specs.declared.Part.TheVariants as part;
 
-use crate::CommandPart;
+use crate::{CommandPart, exactly};
 use commands::Answered;
 use links::Links;
 use profile::ControllerRow;
@@ -13,15 +13,15 @@ impl CommandPart for Links {
     #[tactic(auto, unfolding(commands::specs::Table::find))]
     fn carry_out(s: Controller, profile: ControllerRow, op: u16, p: &[u8]) -> Answered<Links> {
         match op {
-            0x0406 => known::disconnect(s, p),
-            0x0C7C => known::write_auth_payload_timeout(s, p),
-            0x2013 => link::connection_update(s, p),
-            0x201A => link::long_term_key_reply(s, p),
-            0x201B => link::long_term_key_negative_reply(s, p),
-            0x2020 => link::parameter_request_reply(s, p),
-            0x2022 => link::set_data_length(s, profile, p),
+            0x0406 => known::disconnect(s, exactly(p)),
+            0x0C7C => known::write_auth_payload_timeout(s, exactly(p)),
+            0x2013 => link::connection_update(s, exactly(p)),
+            0x201A => link::long_term_key_reply(s, exactly(p)),
+            0x201B => link::long_term_key_negative_reply(s, exactly(p)),
+            0x2020 => link::parameter_request_reply(s, exactly(p)),
+            0x2022 => link::set_data_length(s, profile, exactly(p)),
             // 0x2032: `requires` rules any other out.
-            _ => privacy::set_phy(s, profile, p),
+            _ => privacy::set_phy(s, profile, exactly(p)),
         }
     }
 }

@@ -1,7 +1,7 @@
 // The commands that change the accept list or the resolving list: the list as it is to be, and the answer.
 ghost use Rattle.dispatch.specs.declared.Part.TheVariants as part;
 
-use crate::CommandPart;
+use crate::{CommandPart, exactly};
 use commands::Answered;
 use filters::{AcceptList, ResolvingList};
 use profile::ControllerRow;
@@ -14,9 +14,9 @@ impl CommandPart for AcceptList {
     fn carry_out(s: Controller, profile: ControllerRow, op: u16, p: &[u8]) -> Answered<AcceptList> {
         match op {
             0x2010 => air::clear_accept_list(s),
-            0x2011 => air::add_to_accept_list(s, profile, p),
+            0x2011 => air::add_to_accept_list(s, profile, exactly(p)),
             // 0x2012: `requires` rules any other out.
-            _ => air::remove_from_accept_list(s, p),
+            _ => air::remove_from_accept_list(s, exactly(p)),
         }
     }
 }
@@ -32,11 +32,11 @@ impl CommandPart for ResolvingList {
         p: &[u8],
     ) -> Answered<ResolvingList> {
         match op {
-            0x2027 => privacy::add_to_resolving_list(s, profile, p),
-            0x2028 => privacy::remove_from_resolving_list(s, p),
+            0x2027 => privacy::add_to_resolving_list(s, profile, exactly(p)),
+            0x2028 => privacy::remove_from_resolving_list(s, exactly(p)),
             0x2029 => privacy::clear_resolving_list(s),
             // 0x204E: `requires` rules any other out.
-            _ => privacy::set_privacy_mode(s, p),
+            _ => privacy::set_privacy_mode(s, exactly(p)),
         }
     }
 }

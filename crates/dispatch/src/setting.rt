@@ -1,7 +1,7 @@
 // The commands that set the event masks, the settings, advertising or scanning: the part as it is to be, and the answer.
 ghost use Rattle.dispatch.specs.declared.Part.TheVariants as part;
 
-use crate::CommandPart;
+use crate::{CommandPart, exactly};
 use commands::Answered;
 use hci::status::SUCCESS;
 use profile::ControllerRow;
@@ -14,10 +14,10 @@ impl CommandPart for Masks {
     #[tactic(auto, unfolding(commands::specs::Table::find))]
     fn carry_out(s: Controller, _profile: ControllerRow, op: u16, p: &[u8]) -> Answered<Masks> {
         let masks = match op {
-            0x0C01 => known::set_event_mask(s.masks, p),
-            0x0C63 => known::set_event_mask_page2(s.masks, p),
+            0x0C01 => known::set_event_mask(s.masks, exactly(p)),
+            0x0C63 => known::set_event_mask_page2(s.masks, exactly(p)),
             // 0x2001: `requires` rules any other out.
-            _ => air::set_le_event_mask(s.masks, p),
+            _ => air::set_le_event_mask(s.masks, exactly(p)),
         };
         Answered::done(masks, SUCCESS)
     }
@@ -29,19 +29,19 @@ impl CommandPart for Settings {
     #[tactic(auto, unfolding(commands::specs::Table::find))]
     fn carry_out(s: Controller, profile: ControllerRow, op: u16, p: &[u8]) -> Answered<Settings> {
         match op {
-            0x0C31 => known::set_host_flow_control(s, p),
-            0x2005 => air::set_random_address(s, p),
-            0x2024 => link::write_suggested_data_length(s, p),
-            0x202D => privacy::set_address_resolution(s, p),
-            0x202E => privacy::set_address_timeout(s, p),
-            0x2031 => privacy::set_default_phy(s, profile, p),
-            0x201D => test_and_power::receiver_test(s, profile, p),
-            0x201E => test_and_power::transmitter_test(s, profile, p),
+            0x0C31 => known::set_host_flow_control(s, exactly(p)),
+            0x2005 => air::set_random_address(s, exactly(p)),
+            0x2024 => link::write_suggested_data_length(s, exactly(p)),
+            0x202D => privacy::set_address_resolution(s, exactly(p)),
+            0x202E => privacy::set_address_timeout(s, exactly(p)),
+            0x2031 => privacy::set_default_phy(s, profile, exactly(p)),
+            0x201D => test_and_power::receiver_test(s, profile, exactly(p)),
+            0x201E => test_and_power::transmitter_test(s, profile, exactly(p)),
             0x201F => test_and_power::test_end(s),
-            0x2033 => test_and_power::receiver_test_v2(s, profile, p),
-            0x2034 => test_and_power::transmitter_test_v2(s, profile, p),
+            0x2033 => test_and_power::receiver_test_v2(s, profile, exactly(p)),
+            0x2034 => test_and_power::transmitter_test_v2(s, profile, exactly(p)),
             // 0x204D: `requires` rules any other out.
-            _ => test_and_power::write_path_compensation(s, p),
+            _ => test_and_power::write_path_compensation(s, exactly(p)),
         }
     }
 }
@@ -57,11 +57,11 @@ impl CommandPart for Advertising {
         p: &[u8],
     ) -> Answered<Advertising> {
         match op {
-            0x2006 => air::set_advertising_parameters(s, p),
-            0x2008 => air::set_advertising_data(s, p),
-            0x2009 => air::set_scan_response_data(s, p),
+            0x2006 => air::set_advertising_parameters(s, exactly(p)),
+            0x2008 => air::set_advertising_data(s, exactly(p)),
+            0x2009 => air::set_scan_response_data(s, exactly(p)),
             // 0x200A: `requires` rules any other out.
-            _ => air::set_advertising_enable(s, p),
+            _ => air::set_advertising_enable(s, exactly(p)),
         }
     }
 }
@@ -72,9 +72,9 @@ impl CommandPart for Scanning {
     #[tactic(auto, unfolding(commands::specs::Table::find))]
     fn carry_out(s: Controller, _profile: ControllerRow, op: u16, p: &[u8]) -> Answered<Scanning> {
         match op {
-            0x200B => air::set_scan_parameters(s, p),
-            0x200C => air::set_scan_enable(s, p),
-            0x200D => air::create_connection(s, p),
+            0x200B => air::set_scan_parameters(s, exactly(p)),
+            0x200C => air::set_scan_enable(s, exactly(p)),
+            0x200D => air::create_connection(s, exactly(p)),
             // 0x200E: `requires` rules any other out.
             _ => air::create_connection_cancel(s),
         }

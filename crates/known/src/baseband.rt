@@ -1,6 +1,6 @@
 // The commands of the controller and baseband (Core Vol 4 Part E section 7.3): the event masks, Reset, flow control towards the
 // host, the transmit power and the authenticated payload timeout.
-ghost use Rattle.std.specs.Prelude.{◌≡◌, ◌≤◌, length};
+ghost use Rattle.std.specs.Prelude.{◌≡◌, ◌≤◌};
 ghost use Rattle.octets.specs.Octets.{number_at};
 ghost use Rattle.links.specs.Links.{CountsFit, opened};
 ghost use Rattle.commands.specs.Parts.{with_event_mask, with_event_mask_page2};
@@ -16,8 +16,7 @@ use profile::ControllerRow;
 use state::{Controller, Masks, Settings};
 
 // Set Event Mask (section 7.3.1).
-pub fn set_event_mask(masks: Masks, p: &[u8]) -> Masks
-    requires { length p.now ≡ 8 }
+pub fn set_event_mask(masks: Masks, p: &[u8; 8]) -> Masks
     ensures { result ≡ with_event_mask (number_at 8 p.now 0) masks }
 {
     Masks {
@@ -26,9 +25,9 @@ pub fn set_event_mask(masks: Masks, p: &[u8]) -> Masks
     }
 }
 
-// Set Event Mask Page 2 (section 7.3.69). A function for each mask: one over all would be handed which field it sets, and is no plainer.
-pub fn set_event_mask_page2(masks: Masks, p: &[u8]) -> Masks
-    requires { length p.now ≡ 8 }
+// Set Event Mask Page 2 (section 7.3.69). A function for each mask: one over all would be handed which field it sets, and is no
+// plainer.
+pub fn set_event_mask_page2(masks: Masks, p: &[u8; 8]) -> Masks
     ensures { result ≡ with_event_mask_page2 (number_at 8 p.now 0) masks }
 {
     Masks {
@@ -46,8 +45,8 @@ pub fn reset(s: Controller) -> Answered<Controller>
 
 // Read Transmit Power Level (section 7.3.35).
 #[tactic(auto, unfolding(commands::specs::Known::read_transmit_power))]
-pub fn read_transmit_power(profile: ControllerRow, p: &[u8], links: Links) -> Answer
-    requires { (length p.now ≡ 3) × (links.count ≤ 16) }
+pub fn read_transmit_power(profile: ControllerRow, p: &[u8; 3], links: Links) -> Answer
+    requires { links.count ≤ 16 }
     ensures { Answers (definition.read_transmit_power profile p.now (opened links)) result }
 {
     let handle = octets::word_at(p, 0);
@@ -62,7 +61,8 @@ pub fn read_transmit_power(profile: ControllerRow, p: &[u8], links: Links) -> An
     answers::complete(&[SUCCESS, low, high, power_level(profile, kind)])
 }
 
-// The current transmit power, which is the profile's advertising power, or the greatest, which is at most 20 dBm.
+// The current transmit power, which is the profile's advertising power, or the greatest, which is at most 20 dBm. `kind` is the
+// host's octet, as the definition cites it.
 fn power_level(profile: ControllerRow, kind: u8) -> u8
     ensures { result ≡ definition.power_level profile kind }
 {
@@ -74,22 +74,16 @@ fn power_level(profile: ControllerRow, kind: u8) -> u8
 
 // Set Controller To Host Flow Control (section 7.3.38): kept, and nothing more.
 #[tactic(auto, unfolding(commands::specs::Known::set_host_flow_control))]
-pub fn set_host_flow_control(s: Controller, p: &[u8]) -> Answered<Settings>
-    requires { length p.now ≡ 1 }
+pub fn set_host_flow_control(s: Controller, p: &[u8; 1]) -> Answered<Settings>
     ensures { GivesAny (definition.set_host_flow_control p.now) s (put_settings result.part s) result.answer }
 {
-    let settings = s.settings;
-    let host_flow_control = p[0];
+    let mut settings = s.settings;
+    let [host_flow_control] = *p;
     if host_flow_control > 3 {
         return Answered::done(settings, INVALID_PARAMETERS);
     }
-    Answered::done(
-        Settings {
-            host_flow_control,
-            ..settings
-        },
-        SUCCESS,
-    )
+    settings.host_flow_control = host_flow_control;
+    Answered::done(settings, SUCCESS)
 }
 
 // Host Buffer Size (section 7.3.39): accepted unread.
@@ -113,10 +107,11 @@ pub fn host_completed_packets(p: &[u8]) -> Answer
     answers::done(INVALID_PARAMETERS)
 }
 
-// Read Authenticated Payload Timeout (section 7.3.93).
+// Read Authenticated Payload Timeout (section 7.3.93). The commands that read something of a link answer each with octets of its
+// own number, found or not: one function for them would be handed both answers, and is no plainer.
 #[tactic(auto, unfolding(commands::specs::Known::read_auth_payload_timeout))]
-pub fn read_auth_payload_timeout(p: &[u8], links: Links) -> Answer
-    requires { (length p.now ≡ 2) × (links.count ≤ 16) }
+pub fn read_auth_payload_timeout(p: &[u8; 2], links: Links) -> Answer
+    requires { links.count ≤ 16 }
     ensures { Answers (definition.read_auth_payload_timeout p.now (opened links)) result }
 {
     let handle = octets::word_at(p, 0);
@@ -132,20 +127,19 @@ pub fn read_auth_payload_timeout(p: &[u8], links: Links) -> Answer
 
 // Write Authenticated Payload Timeout (section 7.3.94).
 #[tactic(auto, unfolding(commands::specs::Known::write_auth_payload_timeout))]
-pub fn write_auth_payload_timeout(s: Controller, p: &[u8]) -> Answered<Links>
-    requires { (length p.now ≡ 4) × CountsFit s.links }
+pub fn write_auth_payload_timeout(s: Controller, p: &[u8; 4]) -> Answered<Links>
+    requires { CountsFit s.links }
     ensures { GivesAny (definition.write_auth_payload_timeout p.now) s (put_links result.part s) result.answer }
 {
-    let links = s.links;
     let handle = octets::word_at(p, 0);
     let timeout = octets::word_at(p, 2);
-    match links::connection_of(links, handle) {
-        None => Answered::done_handle(links, UNKNOWN_CONNECTION, handle),
+    match links::connection_of(s.links, handle) {
+        None => Answered::done_handle(s.links, UNKNOWN_CONNECTION, handle),
         Some(c) => {
             if payload_timeout_short(timeout, c) {
-                return Answered::done_handle(links, INVALID_PARAMETERS, handle);
+                return Answered::done_handle(s.links, INVALID_PARAMETERS, handle);
             }
-            let with_timeout = links::set_auth_payload_timeout(links, handle, timeout);
+            let with_timeout = links::set_auth_payload_timeout(s.links, handle, timeout);
             Answered::done_handle(with_timeout, SUCCESS, handle)
         }
     }

@@ -1,6 +1,6 @@
 // The informational and status parameters (Core Vol 4 Part E sections 7.4 and 7.5): what the controller reports about itself,
 // and the RSSI of a link.
-ghost use Rattle.std.specs.Prelude.{◌≡◌, ◌∷◌, ◌≤◌, length};
+ghost use Rattle.std.specs.Prelude.{◌∷◌, ◌≤◌, length};
 ghost use Rattle.answers.specs.Answers.{complete};
 ghost use Rattle.links.specs.Links.{opened};
 ghost use Rattle.commands.specs.Status.{success};
@@ -67,10 +67,11 @@ fn reported(octets: &[u8]) -> Answer
     answers::complete(&all[..n])
 }
 
-// Read RSSI (section 7.5.4): -40 dBm for every link; 127 is "not available".
+// Read RSSI (section 7.5.4): -40 dBm for every link; 127 is "not available". As with the authenticated payload timeout, one
+// function with the other reads of a link is no plainer.
 #[tactic(auto, unfolding(commands::specs::Known::read_rssi))]
-pub fn read_rssi(p: &[u8], links: Links) -> Answer
-    requires { (length p.now ≡ 2) × (links.count ≤ 16) }
+pub fn read_rssi(p: &[u8; 2], links: Links) -> Answer
+    requires { links.count ≤ 16 }
     ensures { Answers (definition.read_rssi p.now (opened links)) result }
 {
     let handle = octets::word_at(p, 0);

@@ -1,5 +1,5 @@
 // The commands of link control (Core Vol 4 Part E section 7.1): Disconnect and Read Remote Version Information.
-ghost use Rattle.std.specs.Prelude.{◌≡◌, ◌≤◌, length};
+ghost use Rattle.std.specs.Prelude.{◌≡◌, ◌≤◌};
 ghost use Rattle.links.specs.Links.{CountsFit, opened};
 ghost use Rattle.commands.specs.Put.{put_links};
 ghost use Rattle.commands.specs.Outcome.{Answers, GivesAny};
@@ -24,31 +24,35 @@ fn reason_allowed(reason: u8) -> bool
 
 // Disconnect (section 7.1.6). The link stays until the peer has acknowledged; then a notice ends it.
 #[tactic(auto, unfolding(commands::specs::Known::disconnect))]
-pub fn disconnect(s: Controller, p: &[u8]) -> Answered<Links>
-    requires { (length p.now ≡ 3) × CountsFit s.links }
+pub fn disconnect(s: Controller, p: &[u8; 3]) -> Answered<Links>
+    requires { CountsFit s.links }
     ensures { GivesAny (definition.disconnect p.now) s (put_links result.part s) result.answer }
 {
-    let links = s.links;
     let reason = p[2];
     if !reason_allowed(reason) {
-        return Answered::status(links, INVALID_PARAMETERS);
+        return Answered::status(s.links, INVALID_PARAMETERS);
     }
     let handle = octets::word_at(p, 0);
-    match links::connection_of(links, handle) {
-        None => Answered::status(links, UNKNOWN_CONNECTION),
+    match links::connection_of(s.links, handle) {
+        None => Answered::status(s.links, UNKNOWN_CONNECTION),
         Some(c) => {
             if c.terminating != 0 {
-                return Answered::status(links, COMMAND_DISALLOWED);
+                return Answered::status(s.links, COMMAND_DISALLOWED);
             }
-            Answered::status(links::set_terminating(links, handle, reason), SUCCESS)
+            Answered::status(links::set_terminating(s.links, handle, reason), SUCCESS)
         }
     }
 }
 
 // Read Remote Version Information (section 7.1.23): the peer reports the controller's own identity.
 #[tactic(auto, unfolding(commands::specs::Known::read_remote_version, commands::specs::Following::remote_version_complete))]
-pub fn read_remote_version(profile: ControllerRow, p: &[u8], masks: Masks, links: Links) -> Answer
-    requires { (length p.now ≡ 2) × (links.count ≤ 16) }
+pub fn read_remote_version(
+    profile: ControllerRow,
+    p: &[u8; 2],
+    masks: Masks,
+    links: Links,
+) -> Answer
+    requires { links.count ≤ 16 }
     ensures { Answers (definition.read_remote_version profile p.now masks (opened links)) result }
 {
     let handle = octets::word_at(p, 0);

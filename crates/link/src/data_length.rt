@@ -1,11 +1,12 @@
 // The longest data packets: of a link, and those suggested for new links.
-ghost use Rattle.std.specs.Prelude.{◌≡◌, ◌≤◌, min, ◌&&◌, eqb, length};
+ghost use Rattle.std.specs.Prelude.{◌≡◌, ◌&&◌, eqb};
 ghost use Rattle.octets.specs.Octets.{word};
 ghost use Rattle.links.specs.Links.{CountsFit};
 ghost use Rattle.answers.specs.Answers.{followed};
 ghost use Rattle.commands.specs.Outcome.{Answers, GivesAny, done_handle};
 ghost use Rattle.commands.specs.Put.{put_links, put_settings};
-ghost use Rattle.commands.specs.Link.{new_octets, new_time, data_length_change, set_data_length, read_suggested_data_length, write_suggested_data_length};
+ghost use Rattle.commands.specs.Link.{new_octets, new_time, data_length_change, set_data_length};
+ghost use Rattle.commands.specs.Link.{read_suggested_data_length, write_suggested_data_length};
 
 use answers::Answer;
 use commands::Answered;
@@ -16,16 +17,14 @@ use profile::ControllerRow;
 use state::{Controller, Masks, Settings};
 
 // The octets that the host asks for, cut to the profile's greatest.
-fn new_octets(profile: ControllerRow, p: &[u8]) -> u16
-    requires { length p.now ≡ 6 }
+fn new_octets(profile: ControllerRow, p: &[u8; 6]) -> u16
     ensures { result ≡ new_octets profile p.now }
 {
     octets::word_at(p, 2).min(profile.max_tx_octets)
 }
 
 // The time that the host asks for, cut to the profile's greatest.
-fn new_time(profile: ControllerRow, p: &[u8]) -> u16
-    requires { length p.now ≡ 6 }
+fn new_time(profile: ControllerRow, p: &[u8; 6]) -> u16
     ensures { result ≡ new_time profile p.now }
 {
     octets::word_at(p, 4).min(profile.max_tx_time)
@@ -39,8 +38,7 @@ fn same_data_length(c: Connection, octets: u16, time: u16) -> bool
 }
 
 // The answer to Set Data Length about the connection c as it was: LE Data Length Change follows where something changes.
-fn data_length_change(profile: ControllerRow, masks: Masks, c: Connection, p: &[u8]) -> Answer
-    requires { length p.now ≡ 6 }
+fn data_length_change(profile: ControllerRow, masks: Masks, c: Connection, p: &[u8; 6]) -> Answer
     ensures { Answers (followed (data_length_change profile p.now masks c) (done_handle 0 (word p.now 0))) result }
 {
     let handle = octets::word_at(p, 0);
@@ -70,30 +68,23 @@ fn data_length_change(profile: ControllerRow, masks: Masks, c: Connection, p: &[
     commands::followed_by_le(answer, masks, DATA_LENGTH_CHANGE, &params)
 }
 
-// LE Set Data Length (section 7.8.33).
+// LE Set Data Length (section 7.8.33). With Set PHY it shares the search for the link alone: each refuses in its own form.
 #[tactic(auto, unfolding(commands::specs::Link::set_data_length))]
-pub fn set_data_length(s: Controller, profile: ControllerRow, p: &[u8]) -> Answered<Links>
-    requires { (length p.now ≡ 6) × CountsFit s.links }
+pub fn set_data_length(s: Controller, profile: ControllerRow, p: &[u8; 6]) -> Answered<Links>
+    requires { CountsFit s.links }
     ensures { GivesAny (set_data_length profile p.now) s (put_links result.part s) result.answer }
 {
     let handle = octets::word_at(p, 0);
-    let links = s.links;
     if !commands::data_length_valid(octets::word_at(p, 2), octets::word_at(p, 4)) {
-        return Answered {
-            part: links,
-            answer: answers::done_handle(INVALID_PARAMETERS, handle),
-        };
+        return Answered::done_handle(s.links, INVALID_PARAMETERS, handle);
     }
-    let Some(c) = links::connection_of(links, handle) else {
-        return Answered {
-            part: links,
-            answer: answers::done_handle(UNKNOWN_CONNECTION, handle),
-        };
+    let Some(c) = links::connection_of(s.links, handle) else {
+        return Answered::done_handle(s.links, UNKNOWN_CONNECTION, handle);
     };
     let octets = new_octets(profile, p);
     let time = new_time(profile, p);
     Answered {
-        part: links::set_data_length(links, handle, octets, time),
+        part: links::set_data_length(s.links, handle, octets, time),
         answer: data_length_change(profile, s.masks, c, p),
     }
 }
@@ -111,8 +102,7 @@ pub fn read_suggested_data_length(settings: Settings) -> Answer
 
 // LE Write Suggested Default Data Length (section 7.8.35).
 #[tactic(auto, unfolding(commands::specs::Link::write_suggested_data_length))]
-pub fn write_suggested_data_length(s: Controller, p: &[u8]) -> Answered<Settings>
-    requires { length p.now ≡ 4 }
+pub fn write_suggested_data_length(s: Controller, p: &[u8; 4]) -> Answered<Settings>
     ensures { GivesAny (write_suggested_data_length p.now) s (put_settings result.part s) result.answer }
 {
     let octets = octets::word_at(p, 0);

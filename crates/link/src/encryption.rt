@@ -20,8 +20,7 @@ fn reversed(p: &[u8], at: usize) -> [u8; 16]
 
 // LE Encrypt (section 7.8.22): the last octet of key and block is FIPS 197's first, and the result goes back so.
 #[tactic(auto, unfolding(commands::specs::Link::encrypt))]
-pub fn encrypt(p: &[u8]) -> Answer
-    requires { length p.now ≡ 32 }
+pub fn encrypt(p: &[u8; 32]) -> Answer
     ensures { Answers (encrypt_of p.now) result }
 {
     let key = reversed(p, 0);

@@ -1,5 +1,5 @@
 // Encryption of a link: the central's start of it, and the host's replies to a request for a long term key.
-ghost use Rattle.std.specs.Prelude.{◌≡◌, List, ℕ, ◌≤◌, length};
+ghost use Rattle.std.specs.Prelude.{List, ℕ, ◌≤◌};
 ghost use Rattle.answers.specs.Answers.{followed};
 ghost use Rattle.links.specs.Links.{CountsFit, opened};
 ghost use Rattle.commands.specs.Outcome.{Answers, GivesAny, done_handle};
@@ -14,8 +14,8 @@ use state::{Controller, Masks};
 
 // LE Enable Encryption (section 7.8.24): encryption is on at once.
 #[tactic(auto, unfolding(commands::specs::Link::enable_encryption))]
-pub fn enable_encryption(links: Links, masks: Masks, p: &[u8]) -> Answer
-    requires { (length p.now ≡ 28) × (links.count ≤ 16) }
+pub fn enable_encryption(links: Links, masks: Masks, p: &[u8; 28]) -> Answer
+    requires { links.count ≤ 16 }
     ensures { Answers (enable_encryption p.now masks (opened links)) result }
 {
     let handle = octets::word_at(p, 0);
@@ -29,31 +29,25 @@ pub fn enable_encryption(links: Links, masks: Masks, p: &[u8]) -> Answer
 // A reply to a request for a link's long term key, answered by `answer` where such a request waits.
 fn key_reply(s: Controller, handle: u16, answer: Answer) -> Answered<Links>
     requires { CountsFit s.links }
-    ensures { (event : List ℕ) → Answers (followed event (done_handle 0 handle)) answer → GivesAny (key_reply handle event) s (put_links result.part s) result.answer }
+    ensures { (event : List ℕ) → Answers (followed event (done_handle 0 handle)) answer
+        → GivesAny (key_reply handle event) s (put_links result.part s) result.answer }
 {
-    let links = s.links;
-    let Some(c) = links::connection_of(links, handle) else {
-        return Answered {
-            part: links,
-            answer: answers::done_handle(UNKNOWN_CONNECTION, handle),
-        };
+    let Some(c) = links::connection_of(s.links, handle) else {
+        return Answered::done_handle(s.links, UNKNOWN_CONNECTION, handle);
     };
     if c.ltk_requested == 0 {
-        return Answered {
-            part: links,
-            answer: answers::done_handle(COMMAND_DISALLOWED, handle),
-        };
+        return Answered::done_handle(s.links, COMMAND_DISALLOWED, handle);
     }
     Answered {
-        part: links::set_ltk_requested(links, handle, 0),
+        part: links::set_ltk_requested(s.links, handle, 0),
         answer,
     }
 }
 
 // LE Long Term Key Request Reply (section 7.8.25): encryption is on at once.
 #[tactic(auto, unfolding(commands::specs::Link::long_term_key_reply))]
-pub fn long_term_key_reply(s: Controller, p: &[u8]) -> Answered<Links>
-    requires { (length p.now ≡ 18) × CountsFit s.links }
+pub fn long_term_key_reply(s: Controller, p: &[u8; 18]) -> Answered<Links>
+    requires { CountsFit s.links }
     ensures { GivesAny (long_term_key_reply p.now) s (put_links result.part s) result.answer }
 {
     let handle = octets::word_at(p, 0);
@@ -64,8 +58,8 @@ pub fn long_term_key_reply(s: Controller, p: &[u8]) -> Answered<Links>
 
 // LE Long Term Key Request Negative Reply (section 7.8.26).
 #[tactic(auto, unfolding(commands::specs::Link::long_term_key_negative_reply))]
-pub fn long_term_key_negative_reply(s: Controller, p: &[u8]) -> Answered<Links>
-    requires { (length p.now ≡ 2) × CountsFit s.links }
+pub fn long_term_key_negative_reply(s: Controller, p: &[u8; 2]) -> Answered<Links>
+    requires { CountsFit s.links }
     ensures { GivesAny (long_term_key_negative_reply p.now) s (put_links result.part s) result.answer }
 {
     let handle = octets::word_at(p, 0);

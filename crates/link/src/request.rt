@@ -1,5 +1,5 @@
 // The host's replies to a peer's request for other connection parameters.
-ghost use Rattle.std.specs.Prelude.{◌≡◌, ◌≤◌, length};
+ghost use Rattle.std.specs.Prelude.{◌≤◌};
 ghost use Rattle.links.specs.Links.{CountsFit, opened};
 ghost use Rattle.commands.specs.Outcome.{Answers, GivesAny};
 ghost use Rattle.commands.specs.Put.{put_links};
@@ -14,31 +14,24 @@ use state::Controller;
 
 // LE Remote Connection Parameter Request Reply (section 7.8.31).
 #[tactic(auto, unfolding(commands::specs::Link::parameter_request_reply))]
-pub fn parameter_request_reply(s: Controller, p: &[u8]) -> Answered<Links>
-    requires { (length p.now ≡ 14) × CountsFit s.links }
+pub fn parameter_request_reply(s: Controller, p: &[u8; 14]) -> Answered<Links>
+    requires { CountsFit s.links }
     ensures { GivesAny (parameter_request_reply p.now) s (put_links result.part s) result.answer }
 {
     let handle = octets::word_at(p, 0);
-    let links = s.links;
     if !update::update_valid(p) {
-        return Answered {
-            part: links,
-            answer: answers::done_handle(INVALID_PARAMETERS, handle),
-        };
+        return Answered::done_handle(s.links, INVALID_PARAMETERS, handle);
     }
-    if !links::has(links, handle) {
-        return Answered {
-            part: links,
-            answer: answers::done_handle(UNKNOWN_CONNECTION, handle),
-        };
+    if !links::has(s.links, handle) {
+        return Answered::done_handle(s.links, UNKNOWN_CONNECTION, handle);
     }
-    update::apply_params(links, s.masks, p, answers::done_handle(SUCCESS, handle))
+    update::apply_params(s.links, s.masks, p, answers::done_handle(SUCCESS, handle))
 }
 
 // LE Remote Connection Parameter Request Negative Reply (section 7.8.32).
 #[tactic(auto, unfolding(commands::specs::Link::parameter_request_negative_reply))]
-pub fn parameter_request_negative_reply(links: Links, p: &[u8]) -> Answer
-    requires { (length p.now ≡ 3) × (links.count ≤ 16) }
+pub fn parameter_request_negative_reply(links: Links, p: &[u8; 3]) -> Answer
+    requires { links.count ≤ 16 }
     ensures { Answers (parameter_request_negative_reply p.now (opened links)) result }
 {
     let handle = octets::word_at(p, 0);

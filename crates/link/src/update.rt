@@ -1,5 +1,5 @@
 // LE Connection Update, and what it shares with the reply to a peer's request for other parameters.
-ghost use Rattle.std.specs.Prelude.{◌≡◌, ◌≤◌, length};
+ghost use Rattle.std.specs.Prelude.{◌≡◌};
 ghost use Rattle.links.specs.Links.{CountsFit};
 ghost use Rattle.commands.specs.Outcome.{GivesAny};
 ghost use Rattle.commands.specs.Put.{put_links};
@@ -13,8 +13,7 @@ use links::{Links, Timing};
 use state::{Controller, Masks};
 
 // Whether the four connection parameters are in their ranges.
-pub fn update_valid(p: &[u8]) -> bool
-    requires { length p.now ≡ 14 }
+pub fn update_valid(p: &[u8; 14]) -> bool
     ensures { result ≡ update_valid p.now }
 {
     commands::connection_params_valid(
@@ -27,8 +26,8 @@ pub fn update_valid(p: &[u8]) -> bool
 
 // The link takes the parameters, of the intervals the shortest that the host allows, and LE Connection Update Complete follows
 // the answer.
-pub fn apply_params(links: Links, masks: Masks, p: &[u8], answer: Answer) -> Answered<Links>
-    requires { (length p.now ≡ 14) × CountsFit links }
+pub fn apply_params(links: Links, masks: Masks, p: &[u8; 14], answer: Answer) -> Answered<Links>
+    requires { CountsFit links }
     ensures { Applied p.now masks links answer result.part result.answer }
 {
     let handle = octets::word_at(p, 0);
@@ -45,23 +44,16 @@ pub fn apply_params(links: Links, masks: Masks, p: &[u8], answer: Answer) -> Ans
 
 // LE Connection Update (section 7.8.18).
 #[tactic(auto, unfolding(commands::specs::Link::connection_update))]
-pub fn connection_update(s: Controller, p: &[u8]) -> Answered<Links>
-    requires { (length p.now ≡ 14) × CountsFit s.links }
+pub fn connection_update(s: Controller, p: &[u8; 14]) -> Answered<Links>
+    requires { CountsFit s.links }
     ensures { GivesAny (connection_update p.now) s (put_links result.part s) result.answer }
 {
     let handle = octets::word_at(p, 0);
-    let links = s.links;
     if !update_valid(p) {
-        return Answered {
-            part: links,
-            answer: answers::status(INVALID_PARAMETERS),
-        };
+        return Answered::status(s.links, INVALID_PARAMETERS);
     }
-    if !links::has(links, handle) {
-        return Answered {
-            part: links,
-            answer: answers::status(UNKNOWN_CONNECTION),
-        };
+    if !links::has(s.links, handle) {
+        return Answered::status(s.links, UNKNOWN_CONNECTION);
     }
-    apply_params(links, s.masks, p, answers::status(SUCCESS))
+    apply_params(s.links, s.masks, p, answers::status(SUCCESS))
 }

@@ -1,5 +1,4 @@
 // The commands of resolvable private addresses: the controller makes none, and keeps what the host sets.
-ghost use Rattle.std.specs.Prelude.{◌≡◌, length};
 ghost use Rattle.commands.specs.Put.{put_settings};
 ghost use Rattle.commands.specs.Outcome.{Answers, GivesAny};
 ghost use Rattle.commands.specs.Privacy.{read_resolvable_address, set_address_resolution, set_address_timeout};
@@ -19,12 +18,11 @@ pub fn read_resolvable_address() -> Answer
 
 // LE Set Address Resolution Enable (section 7.8.44).
 #[tactic(auto, unfolding(commands::specs::Privacy::set_address_resolution))]
-pub fn set_address_resolution(s: Controller, p: &[u8]) -> Answered<Settings>
-    requires { length p.now ≡ 1 }
+pub fn set_address_resolution(s: Controller, p: &[u8; 1]) -> Answered<Settings>
     ensures { GivesAny (set_address_resolution p.now) s (put_settings result.part s) result.answer }
 {
     let mut settings = s.settings;
-    let enable = p[0];
+    let [enable] = *p;
     if enable > 1 {
         return Answered::done(settings, INVALID_PARAMETERS);
     }
@@ -37,8 +35,7 @@ pub fn set_address_resolution(s: Controller, p: &[u8]) -> Answered<Settings>
 
 // LE Set Resolvable Private Address Timeout (section 7.8.45): 1 s to 1 hour.
 #[tactic(auto, unfolding(commands::specs::Privacy::set_address_timeout))]
-pub fn set_address_timeout(s: Controller, p: &[u8]) -> Answered<Settings>
-    requires { length p.now ≡ 2 }
+pub fn set_address_timeout(s: Controller, p: &[u8; 2]) -> Answered<Settings>
     ensures { GivesAny (set_address_timeout p.now) s (put_settings result.part s) result.answer }
 {
     let mut settings = s.settings;

@@ -1,5 +1,5 @@
 // The commands of the PHYs and of the longest data packets.
-ghost use Rattle.std.specs.Prelude.{◌≡◌, ◌≤◌, length};
+ghost use Rattle.std.specs.Prelude.{◌≤◌};
 ghost use Rattle.links.specs.Links.{CountsFit, opened};
 ghost use Rattle.commands.specs.Put.{put_settings, put_links};
 ghost use Rattle.commands.specs.Outcome.{Answers, GivesAny};
@@ -34,10 +34,11 @@ pub fn read_maximum_data_length(profile: ControllerRow) -> Answer
     ])
 }
 
-// LE Read PHY (section 7.8.47).
+// LE Read PHY (section 7.8.47). One function with the other reads of a link (`known`, `link`) would be handed both answers, and is
+// no plainer.
 #[tactic(auto, unfolding(commands::specs::Privacy::read_phy))]
-pub fn read_phy(p: &[u8], links: Links) -> Answer
-    requires { (length p.now ≡ 2) × (links.count ≤ 16) }
+pub fn read_phy(p: &[u8; 2], links: Links) -> Answer
+    requires { links.count ≤ 16 }
     ensures { Answers (read_phy p.now (opened links)) result }
 {
     let handle = octets::word_at(p, 0);
@@ -50,14 +51,11 @@ pub fn read_phy(p: &[u8], links: Links) -> Answer
 
 // LE Set Default PHY (section 7.8.48).
 #[tactic(auto, unfolding(commands::specs::Privacy::set_default_phy))]
-pub fn set_default_phy(s: Controller, profile: ControllerRow, p: &[u8]) -> Answered<Settings>
-    requires { length p.now ≡ 3 }
+pub fn set_default_phy(s: Controller, profile: ControllerRow, p: &[u8; 3]) -> Answered<Settings>
     ensures { GivesAny (set_default_phy profile p.now) s (put_settings result.part s) result.answer }
 {
     let mut settings = s.settings;
-    let all = p[0];
-    let tx = p[1];
-    let rx = p[2];
+    let [all, tx, rx] = *p;
     if phy_preference_empty(all, tx, rx) {
         return Answered::done(settings, INVALID_PARAMETERS);
     }
@@ -70,17 +68,13 @@ pub fn set_default_phy(s: Controller, profile: ControllerRow, p: &[u8]) -> Answe
 
 // LE Set PHY (section 7.8.49): the handle alone is tested.
 #[tactic(auto, unfolding(commands::specs::Privacy::set_phy))]
-pub fn set_phy(s: Controller, profile: ControllerRow, p: &[u8]) -> Answered<Links>
-    requires { (length p.now ≡ 7) × CountsFit s.links }
+pub fn set_phy(s: Controller, profile: ControllerRow, p: &[u8; 7]) -> Answered<Links>
+    requires { CountsFit s.links }
     ensures { GivesAny (set_phy profile p.now) s (put_links result.part s) result.answer }
 {
     let handle = octets::word_at(p, 0);
-    let links = s.links;
-    let Some(c) = links::connection_of(links, handle) else {
-        return Answered {
-            part: links,
-            answer: answers::status(UNKNOWN_CONNECTION),
-        };
+    let Some(c) = links::connection_of(s.links, handle) else {
+        return Answered::status(s.links, UNKNOWN_CONNECTION);
     };
     let all = p[2];
     let tx = pick_phy(profile, all % 2 == 1, p[3], c.tx_phy);
@@ -89,7 +83,7 @@ pub fn set_phy(s: Controller, profile: ControllerRow, p: &[u8]) -> Answered<Link
     let params = [SUCCESS, low, high, tx, rx];
     let status = answers::status(SUCCESS);
     Answered {
-        part: links::set_phys(links, handle, tx, rx),
+        part: links::set_phys(s.links, handle, tx, rx),
         answer: commands::followed_by_le(status, s.masks, PHY_UPDATE_COMPLETE, &params),
     }
 }

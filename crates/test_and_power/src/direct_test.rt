@@ -1,11 +1,12 @@
 // Direct Test Mode (Core Vol 4 Part E sections 7.8.28 to 7.8.30). No packet is counted: none reaches a receiver that is not
 // there.
-ghost use Rattle.std.specs.Prelude.{◌≡◌, [], ◌≤◌, length};
+ghost use Rattle.std.specs.Prelude.{◌≡◌, [], ◌≤◌};
 ghost use Rattle.state.specs.State.{view};
 ghost use Rattle.commands.specs.Outcome.{Gives, GivesAny, Ready};
 ghost use Rattle.commands.specs.Put.{put_settings};
 ghost use Rattle.commands.specs.Test.{idle as is_idle};
-ghost use Rattle.commands.specs.Test.{test_phy, start_test, test_end, receiver_test, transmitter_test, receiver_test2, transmitter_test2};
+ghost use Rattle.commands.specs.Test.{test_phy, start_test, test_end};
+ghost use Rattle.commands.specs.Test.{receiver_test, transmitter_test, receiver_test2, transmitter_test2};
 
 use commands::Answered;
 use hci::status::{COMMAND_DISALLOWED, INVALID_PARAMETERS, SUCCESS, UNSUPPORTED_FEATURE};
@@ -40,8 +41,9 @@ fn test_phy(profile: ControllerRow, transmit: bool, phy: u8) -> bool
     }
 }
 
-// Starts a test: what the four commands test, in the order of the source. `allowed` is the test of modulation or payload.
-// `transmit` is a bool as in the definition: an enum of two variants would only be turned back into it in each contract.
+// Starts a test: what the four commands test, in the order of the source. `allowed` is the test of modulation or payload, which
+// each command makes of its own octet. `transmit` is a bool as in the definition: an enum of two variants would only be turned
+// back into it in each contract.
 #[tactic(auto, unfolding(commands::specs::Test::start_test, commands::specs::Test::idle))]
 fn start_test(
     s: Controller,
@@ -76,35 +78,39 @@ fn start_test(
 }
 
 // LE Receiver Test v1 (section 7.8.28): LE 1M.
-pub fn receiver_test(s: Controller, profile: ControllerRow, p: &[u8]) -> Answered<Settings>
-    requires { (length p.now ≡ 1) × Ready s profile }
+pub fn receiver_test(s: Controller, profile: ControllerRow, p: &[u8; 1]) -> Answered<Settings>
+    requires { Ready s profile }
     ensures { Gives (receiver_test profile p.now) profile s (put_settings result.part s) result.answer }
 {
-    start_test(s, profile, false, p[0], 1, true)
+    let [channel] = *p;
+    start_test(s, profile, false, channel, 1, true)
 }
 
 // LE Transmitter Test v1 (section 7.8.29): LE 1M, payload to 7.
-pub fn transmitter_test(s: Controller, profile: ControllerRow, p: &[u8]) -> Answered<Settings>
-    requires { (length p.now ≡ 3) × Ready s profile }
+pub fn transmitter_test(s: Controller, profile: ControllerRow, p: &[u8; 3]) -> Answered<Settings>
+    requires { Ready s profile }
     ensures { Gives (transmitter_test profile p.now) profile s (put_settings result.part s) result.answer }
 {
-    start_test(s, profile, true, p[0], 1, p[2] <= 0x07)
+    let [channel, _, payload] = *p;
+    start_test(s, profile, true, channel, 1, payload <= 0x07)
 }
 
 // LE Receiver Test v2 (section 7.8.28): channel, PHY, modulation index to 1.
-pub fn receiver_test_v2(s: Controller, profile: ControllerRow, p: &[u8]) -> Answered<Settings>
-    requires { (length p.now ≡ 3) × Ready s profile }
+pub fn receiver_test_v2(s: Controller, profile: ControllerRow, p: &[u8; 3]) -> Answered<Settings>
+    requires { Ready s profile }
     ensures { Gives (receiver_test2 profile p.now) profile s (put_settings result.part s) result.answer }
 {
-    start_test(s, profile, false, p[0], p[1], p[2] <= 1)
+    let [channel, phy, modulation] = *p;
+    start_test(s, profile, false, channel, phy, modulation <= 1)
 }
 
 // LE Transmitter Test v2 (section 7.8.29): channel, length, payload to 7, PHY.
-pub fn transmitter_test_v2(s: Controller, profile: ControllerRow, p: &[u8]) -> Answered<Settings>
-    requires { (length p.now ≡ 4) × Ready s profile }
+pub fn transmitter_test_v2(s: Controller, profile: ControllerRow, p: &[u8; 4]) -> Answered<Settings>
+    requires { Ready s profile }
     ensures { Gives (transmitter_test2 profile p.now) profile s (put_settings result.part s) result.answer }
 {
-    start_test(s, profile, true, p[0], p[3], p[2] <= 0x07)
+    let [channel, _, payload, phy] = *p;
+    start_test(s, profile, true, channel, phy, payload <= 0x07)
 }
 
 // LE Test End (section 7.8.30).

@@ -1,5 +1,5 @@
-// Direct Test Mode, advertising sets and transmit power: the source's `test_and_power`. For the crate `dispatch`, which picks one by
-// its opcode. Contracts cite `specs/Test.antt` of the crate `commands`.
+// Direct Test Mode, advertising sets and transmit power: the source's `test_and_power`. For the crate `dispatch`, which picks one
+// by its opcode. Contracts cite `specs/Test.antt` of the crate `commands`.
 #![tactic(auto)]
 
 mod direct_test;

@@ -41,8 +41,7 @@ pub fn read_path_compensation(settings: Settings) -> Answer
 
 // LE Write RF Path Compensation (section 7.8.76): -128.0 dB (0xFB00) to 128.0 dB (0x0500) in 0.1 dB.
 #[tactic(auto, unfolding(commands::specs::Test::write_path_compensation))]
-pub fn write_path_compensation(s: Controller, p: &[u8]) -> Answered<Settings>
-    requires { length p.now ≡ 4 }
+pub fn write_path_compensation(s: Controller, p: &[u8; 4]) -> Answered<Settings>
     ensures { GivesAny (write_path_compensation p.now) s (put_settings result.part s) result.answer }
 {
     if !(allowed_at(p, 0) && allowed_at(p, 2)) {

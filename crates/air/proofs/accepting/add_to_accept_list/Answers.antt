@@ -11,7 +11,7 @@ use Rattle.air.proofs.accepting.add_to_accept_list.Goals as goal
 pub returns-then-accept_list_in_use : goal.returns-then-accept_list_in_use
 unfolding add_to_accept_list
 returns-then-accept_list_in_use c =
-    gives_part put_accept_list c.done.ensures (λ size pool. rw (sym (c.accept_list_in_use.ensures size pool) ∙ c.if-accept_list_in_use.true)) c.requires.1.holds
+    gives_part put_accept_list c.done.ensures (λ size pool. rw (sym (c.accept_list_in_use.ensures size pool) ∙ c.if-accept_list_in_use.true)) c.requires.holds
 
 pub returns-then-not-accept_type_valid : goal.returns-then-not-accept_type_valid
 unfolding add_to_accept_list
@@ -19,7 +19,7 @@ returns-then-not-accept_type_valid c =
     let invalid = failed c.accept_type_valid.ensures (ap not c.if-not-accept_type_valid.true) in
     gives_part put_accept_list c.done-then-not-accept_type_valid.ensures
     (λ size pool. rw (sym (c.accept_list_in_use.ensures size pool) ∙ c.if-accept_list_in_use.false, invalid))
-    c.requires.1.holds
+    c.requires.holds
 
 pub returns-in-None : goal.returns-in-None
 unfolding add_to_accept_list
@@ -28,12 +28,12 @@ returns-in-None c =
     let full = rw (c.from-size.ensures, c.accept_entry.ensures) at c.in-None.ensures in
     gives_part put_accept_list c.done-in-None.ensures
     (λ size pool. rw (sym (c.accept_list_in_use.ensures size pool) ∙ c.if-accept_list_in_use.false, valid, full))
-    c.requires.1.holds
+    c.requires.holds
 
 pub returns-in-Some : goal.returns-in-Some
 unfolding add_to_accept_list
 returns-in-Some c =
-    let ready = c.requires.1 in
+    let ready = c.requires in
     let valid = passed c.accept_type_valid.ensures (ap not c.if-not-accept_type_valid.false) in
     let room = rw (c.from-size.ensures, c.accept_entry.ensures) at c.in-Some.ensures in
     gives_part put_accept_list c.done-in-Some.ensures

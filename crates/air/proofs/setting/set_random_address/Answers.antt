@@ -13,5 +13,6 @@ returns-then-busy c = λ k h.
 pub returns : goal.returns
 unfolding set_random_address
 returns c = λ k h.
-    gives_part put_settings c.done-2.ensures (λ size pool. rw (sym (c.busy.ensures size pool) ∙ c.if-busy.false, c.copy_from_slice.ensures.after))
+    gives_part put_settings c.done-2.ensures
+    (λ size pool. rw (sym (c.busy.ensures size pool) ∙ c.if-busy.false, c.copy_from_slice.ensures.after))
     (holds_settings h (record { family = h.settings.family; tested = h.settings.tested }))

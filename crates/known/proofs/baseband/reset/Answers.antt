@@ -9,5 +9,7 @@ use Rattle.known.proofs.baseband.reset.Goals as goal
 pub returns : goal.returns
 unfolding reset
 returns c =
-    λ k held. gives_part (λ (t s : Controller). t) c.done.ensures (λ size pool. ap (λ m. outcome (done 0) m) (sym (c.reset.ensures.viewed size pool)))
+    λ k held.
+    gives_part (λ (t s : Controller). t) c.done.ensures
+    (λ size pool. ap (λ m. outcome (done 0) m) (sym (c.reset.ensures.viewed size pool)))
     (c.reset.ensures.held held.recent k)

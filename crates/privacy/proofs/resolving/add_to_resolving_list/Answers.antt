@@ -20,8 +20,8 @@ returns c =
     let list = c.args.s.resolving_list in
     let count = resolving_count list in
     let identity = c.identity-identity.result in
-    let holds = c.requires.1.holds in
+    let holds = c.requires.holds in
     let seven : length identity ≡ 7 = search rules in
     gives_part put_resolving_list c.done-2.ensures (λ size pool. search rules)
-    (holds_resolving_list holds (resolving_pushed identity holds.resolving c.requires.1.limits.most_resolving seven
+    (holds_resolving_list holds (resolving_pushed identity holds.resolving c.requires.limits.most_resolving seven
     (identity_absent list identity c.listed.ensures c.if-listed.false) (omega arith) c.push.ensures))
