@@ -17,17 +17,15 @@ use Rattle.links.specs.Change.{Changes}
 use Rattle.links.proofs.Keeping.{changed_holds}
 use Rattle.state.specs.State.{Model, view}
 use Rattle.state.specs.Holding.{StateHolds, SettingsHold, AdvertisingHolds, AcceptHolds, ResolvingHolds, place_size}
-use Rattle.state.specs.declared.Masks.{Masks}
 use Rattle.state.specs.declared.Settings.{Settings}
 use Rattle.state.specs.declared.Advertising.{Advertising}
-use Rattle.state.specs.declared.Scanning.{Scanning}
 use Rattle.state.specs.declared.Counters.{Counters}
 use Rattle.state.specs.declared.Recent.{Recent}
 use Rattle.state.specs.declared.Controller.{Controller}
-use Rattle.commands.specs.Parts.{with_masks, with_links}
-use Rattle.commands.specs.Put.{put_masks, put_settings, put_advertising, put_scanning, put_accept_list}
+use Rattle.commands.specs.Parts.{with_links}
+use Rattle.commands.specs.Put.{put_settings, put_advertising, put_accept_list}
 use Rattle.commands.specs.Put.{put_resolving_list, put_links, put_counters, put_recent}
-use Rattle.commands.specs.Outcome.{Outcome, outcome, done, Answers, Gives}
+use Rattle.commands.specs.Outcome.{Outcome, outcome, Answers, Gives}
 
 -- ---- an answer alone
 
@@ -44,17 +42,11 @@ answered_then {octets} f e same = record { same = f.0 ∙ ap (λ (x : AnswerMode
 
 -- ---- the state with a new part holds together, where the part does
 module _ {s : Controller} {k : ControllerRow} (h : StateHolds s k) where
-  pub holds_masks : (x : Masks) → StateHolds (put_masks x s) k
-  holds_masks x = search rules
-
   pub holds_settings : {x : Settings} → SettingsHold x → StateHolds (put_settings x s) k
   holds_settings part = search rules
 
   pub holds_advertising : {x : Advertising} → AdvertisingHolds x → StateHolds (put_advertising x s) k
   holds_advertising part = search rules
-
-  pub holds_scanning : (x : Scanning) → StateHolds (put_scanning x s) k
-  holds_scanning x = search rules
 
   pub holds_accept_list : {x : AcceptList} → AcceptHolds x k.accept_list_size → StateHolds (put_accept_list x s) k
   holds_accept_list part = search rules
@@ -94,12 +86,6 @@ module _ {f : Model → Outcome} {k : ControllerRow} {s : Controller} where
       (λ size pool. same size pool
       ∙ ap (λ (y : links.Model). outcome expected (with_links y (view s size pool))) (sym (x.viewed size pool)))
       (holds_links held (changed_holds s.links held.links h g keeps x))
-
-  -- other masks: t and a are the state and the answer of `put_masks`
-  pub gives_masks : {t : Controller} {x : Masks} {a : Answer} → (t ≡ put_masks x s) × Answers (done 0) a
-      → ((size : ℕ) (pool : List ℕ) → f (view s size pool) ≡ outcome (done 0) (with_masks x (view s size pool))) → StateHolds s k
-      → Gives f k s t a
-  gives_masks {x = x} e same held = rw e.0 (gives_answer (e.1.same, e.1.shaped) same (holds_masks held x))
 
   -- a part y of the state, given as x, that `put` puts back; where it is the part that s has, nothing changed
   pub gives_part : {A : Type 0} (put : A → Controller → Controller) {x y : A} {expected : AnswerModel} {a : Answer}

@@ -1,19 +1,10 @@
--- The arms of a `match` on the opcode: what the row of an arm tells the function that it calls, and that the last arm is never
--- reached. For `dispatch`.
+-- The arms of a `match` on the opcode: the last arm is never reached. For `dispatch`.
 use mathlib.Core.Path.{◌≡◌, sym}
-use Prim.Native.Nat.{ℕ, ◌≤◌}
+use Prim.Native.Nat.{ℕ}
 use mathlib.Core.List.{List, [], ◌∷◌}
 use mathlib.Core.Bool.{true, true≢false}
-use lib.Dec.{eqb}
-use borrow.Author.Tests.{eqb-true, ne_eqb}
-use Rattle.profile.specs.declared.ControllerRow.{ControllerRow}
-use Rattle.state.specs.declared.Controller.{Controller}
-use Rattle.commands.specs.Outcome.{Ready}
+use borrow.Author.Tests.{ne_eqb}
 use Rattle.commands.specs.Table.{Row, find, sized}
-
--- what a command that looks at the links requires: n is how many parameters there are
-pub asked_look : {s : Controller} {k : ControllerRow} → Ready s k → (n m : ℕ) → eqb n m ≡ true → (n ≡ m) × (s.links.count ≤ 16)
-asked_look ready n m e = (eqb-true n m e, ready.holds.links.few_links)
 
 -- what the `match` leaves for its last arm: the opcode is that of no row. `before` is what the arms before these say
 abbrev pub Passed : ℕ → Type 0 → List Row → Type 0

@@ -27,6 +27,7 @@ fn locked(s: Controller) -> bool
 }
 
 // Whether an identity is on the list.
+#[tactic(auto, using(lists::proofs::Search::position_is_some))]
 fn listed(list: ResolvingList, identity: [u8; 7]) -> bool
     requires { list.count ≤ 16 }
     ensures { result ≡ any (has_identity identity) (resolving_entries list) }

@@ -1,5 +1,5 @@
 -- `known::baseband::write_auth_payload_timeout` meets its contract: where the timeout is taken, it is the connection's.
-use mathlib.Core.Path.{refl, sym, ◌∙◌}
+use Rattle.std.proofs.Common.{rules, refl}
 use Rattle.links.specs.Fields.{with_auth_payload_timeout}
 use Rattle.commands.specs.Known.{write_auth_payload_timeout}
 use Rattle.commands.proofs.Giving.{gives_changed}
@@ -7,11 +7,8 @@ use Rattle.known.proofs.baseband.write_auth_payload_timeout.Goals as goal
 
 pub returns-else-payload_timeout_short : goal.returns-else-payload_timeout_short
 unfolding write_auth_payload_timeout
-returns-else-payload_timeout_short c =
-    λ k held.
-    let some = sym c.connection_of.ensures ∙ c.in-Some.is in
-    let long = sym c.payload_timeout_short.ensures ∙ c.if-payload_timeout_short.false in
+returns-else-payload_timeout_short c k held =
     let answered = c.done_handle-in-Some.ensures in
     rw answered.0
     (gives_changed _ (with_auth_payload_timeout _) (λ x. refl) c.set_auth_payload_timeout-with_timeout.ensures answered.1
-    (λ size pool. rw (← c.word_at-handle.ensures, ← c.word_at-timeout.ensures, some, long)) held)
+    (λ size pool. search rules) held)

@@ -1,2 +1,0 @@
--- The laws of `link`.
-pub mod Asking
