@@ -77,7 +77,7 @@ pub fn set_advertising_data(s: Controller, p: &[u8; 32]) -> Answered<Advertising
     }
 }
 
-// LE Set Scan Response Data (section 7.8.8).
+// LE Set Scan Response Data (section 7.8.8). One function with the data would be handed which field it sets, and is no plainer.
 #[tactic(auto, unfolding(commands::specs::Air::set_scan_response_data))]
 pub fn set_scan_response_data(s: Controller, p: &[u8; 32]) -> Answered<Advertising>
     ensures { GivesAny (set_scan_response_data p.now) s (put_advertising result.part s) result.answer }

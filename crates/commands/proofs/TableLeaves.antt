@@ -12,8 +12,9 @@ use borrow.Table.Steps.{cases}
 use Rattle.aes.specs.Aes.{cipher, aes128}
 use Rattle.state.specs.State.{Model}
 use Rattle.commands.specs.Outcome.{Given}
-use Rattle.commands.specs.Known.{disconnect, read_remote_version, set_event_mask, reset, read_transmit_power, set_host_flow_control}
-use Rattle.commands.specs.Known.{host_buffer_size, host_completed_packets, set_event_mask_page2, read_auth_payload_timeout}
+use Rattle.commands.specs.Known.{disconnect, read_remote_version, set_event_mask, reset, read_transmit_power}
+use Rattle.commands.specs.Known.{set_host_flow_control, host_buffer_size, host_completed_packets, set_event_mask_page2}
+use Rattle.commands.specs.Known.{read_auth_payload_timeout}
 use Rattle.commands.specs.Known.{write_auth_payload_timeout, read_local_version, read_supported_commands}
 use Rattle.commands.specs.Known.{read_supported_features, read_public_address, read_rssi}
 use Rattle.commands.specs.Air.{set_le_event_mask, read_buffer_size, read_local_features, set_random_address}
@@ -104,9 +105,13 @@ air_rows_lem g shaped =
     also (λ _ m. search leaving)
     also no_rows
 
--- of Encrypt: a block has sixteen octets, and as many when it is turned round
+-- a block has sixteen octets, and as many when it is turned round
+encrypt_modest : (p : List ℕ) → Modest (encrypt p)
+unfolding encrypt aes128 cipher
+encrypt_modest p = completes _ (omega (arith, length-reverse (aes128 (reverse (take 16 p)) (reverse (take 16 (drop 16 p))))))
+
 pub link_rows_lem : (g : Given) → Shaped g → EachRow (RowLeaves g) link_rows
-unfolding connection_update set_host_channels read_channel_map read_remote_features encrypt aes128 cipher rand enable_encryption
+unfolding connection_update set_host_channels read_channel_map read_remote_features rand enable_encryption
     long_term_key_reply long_term_key_negative_reply parameter_request_reply parameter_request_negative_reply
     set_data_length read_suggested_data_length write_suggested_data_length
 link_rows_lem g shaped =
@@ -114,7 +119,7 @@ link_rows_lem g shaped =
     also (λ _ m. search leaving)
     also (λ _ m. search leaving)
     also (λ _ m. search leaving)
-    also (λ _ m. same_state (completes _ (omega (arith, length-reverse (aes128 (reverse (take 16 g.params)) (reverse (take 16 (drop 16 g.params))))))))
+    also (λ _ m. same_state (encrypt_modest g.params))
     also (λ _ m. search leaving)
     also (λ _ m. search leaving)
     also (λ _ m. search leaving depth 8)

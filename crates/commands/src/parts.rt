@@ -55,7 +55,7 @@ impl<P> Answered<P> {
 }
 
 // A part of the state: `put x s` is the state s with x in place of its own. What is noted of every command, counters, settings
-// and last answers, is put in after it, so it does not matter which of these the state had before.
+// and last answers, is put in after it, so it does not matter which of these the state had before. Each impl names its own field.
 pub trait StatePart: Copy {
     ghost put: { Self → Controller → Controller };
 

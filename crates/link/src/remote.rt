@@ -11,8 +11,8 @@ use links::Links;
 use profile::ControllerRow;
 use state::Masks;
 
-// LE Read Channel Map (section 7.8.20): all 37 channels. One function with the other reads of a link (`known`, `privacy`) would be
-// handed both answers, and is no plainer.
+// LE Read Channel Map (section 7.8.20): all 37 channels. One function with the other reads of a link (`known`, `privacy`) would
+// be handed both answers, and is no plainer.
 #[tactic(auto, unfolding(commands::specs::Link::read_channel_map))]
 pub fn read_channel_map(links: Links, p: &[u8; 2]) -> Answer
     requires { links.count ≤ 16 }

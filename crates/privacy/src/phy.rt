@@ -34,8 +34,8 @@ pub fn read_maximum_data_length(profile: ControllerRow) -> Answer
     ])
 }
 
-// LE Read PHY (section 7.8.47). One function with the other reads of a link (`known`, `link`) would be handed both answers, and is
-// no plainer.
+// LE Read PHY (section 7.8.47). One function with the other reads of a link (`known`, `link`) would be handed both answers, and
+// is no plainer.
 #[tactic(auto, unfolding(commands::specs::Privacy::read_phy))]
 pub fn read_phy(p: &[u8; 2], links: Links) -> Answer
     requires { links.count ≤ 16 }

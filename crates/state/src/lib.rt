@@ -1,5 +1,5 @@
-// The state of one controller, by value: the source's `Controller` in groups, lists as arrays beside their counts, flags and kinds
-// as numbers, since C hands it in and any octets are a state. For the controller's commands and notices. Contracts cite
+// The state of one controller, by value: the source's `Controller` in groups, lists as arrays beside their counts, flags and
+// kinds as numbers, since C hands it in and any octets are a state. For the controller's commands and notices. Contracts cite
 // `specs/State.antt`.
 #![tactic(auto)]
 

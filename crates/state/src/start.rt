@@ -90,7 +90,7 @@ fn default_advertising() -> Advertising
 }
 
 impl Recent {
-    // No answer yet.
+    // No answer yet. C's header names this type and the two lists, so each has a `new` of its own.
     #[tactic(auto, unfolding(lists::specs::Lists::chunks))]
     pub fn new() -> Recent
         ensures { (answers_of result ≡ []) × (result.count ≡ 0) }
