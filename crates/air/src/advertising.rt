@@ -5,11 +5,11 @@ ghost use Rattle.lists.specs.Lists.{same_list};
 ghost use Rattle.state.specs.State.{view};
 ghost use Rattle.commands.specs.Air.{advertising_intervals_valid, advertising_parameters_valid, set_advertising_parameters};
 ghost use Rattle.commands.specs.Air.{set_advertising_data, set_scan_response_data, set_advertising_enable, no_random_address};
-ghost use Rattle.commands.specs.Outcome.{GivesAny};
+ghost use Rattle.commands.specs.Outcome.{done};
+ghost use Rattle.commands.specs.Refused.{YieldsAny};
 ghost use Rattle.commands.specs.Put.{put_advertising};
 
-use commands::Answered;
-use hci::status::{COMMAND_DISALLOWED, INVALID_PARAMETERS, SUCCESS};
+use commands::ErrorCode;
 use state::{Advertising, Controller};
 
 // High duty cycle directed advertising (type 1) has no intervals.
@@ -39,18 +39,18 @@ fn advertising_parameters_valid(p: &[u8; 15]) -> bool
 
 // LE Set Advertising Parameters (section 7.8.5): not while advertising.
 #[tactic(auto, unfolding(commands::specs::Air::set_advertising_parameters))]
-pub fn set_advertising_parameters(s: Controller, p: &[u8; 15]) -> Answered<Advertising>
-    ensures { GivesAny (set_advertising_parameters p.now) s (put_advertising result.part s) result.answer }
+pub fn set_advertising_parameters(s: Controller, p: &[u8; 15]) -> Result<Advertising, ErrorCode>
+    ensures { YieldsAny done (set_advertising_parameters p.now) put_advertising s.advertising s result }
 {
     let mut advertising = s.advertising;
     if advertising.enabled != 0 {
-        return Answered::done(advertising, COMMAND_DISALLOWED);
+        return Err(ErrorCode::CommandDisallowed);
     }
     if !advertising_parameters_valid(p) {
-        return Answered::done(advertising, INVALID_PARAMETERS);
+        return Err(ErrorCode::InvalidParameters);
     }
     advertising.params.copy_from_slice(p);
-    Answered::done(advertising, SUCCESS)
+    Ok(advertising)
 }
 
 // What advertising data or a scan response is to be: a length, then that many octets and padding. None where the length is too
@@ -68,23 +68,23 @@ fn load_of(p: &[u8; 32]) -> Option<&[u8]>
 
 // LE Set Advertising Data (section 7.8.7).
 #[tactic(auto, unfolding(commands::specs::Air::set_advertising_data))]
-pub fn set_advertising_data(s: Controller, p: &[u8; 32]) -> Answered<Advertising>
-    ensures { GivesAny (set_advertising_data p.now) s (put_advertising result.part s) result.answer }
+pub fn set_advertising_data(s: Controller, p: &[u8; 32]) -> Result<Advertising, ErrorCode>
+    ensures { YieldsAny done (set_advertising_data p.now) put_advertising s.advertising s result }
 {
     match load_of(p) {
-        Some(load) => Answered::done(s.advertising.with_data(load), SUCCESS),
-        None => Answered::done(s.advertising, INVALID_PARAMETERS),
+        Some(load) => Ok(s.advertising.with_data(load)),
+        None => Err(ErrorCode::InvalidParameters),
     }
 }
 
 // LE Set Scan Response Data (section 7.8.8). One function with the data would be handed which field it sets, and is no plainer.
 #[tactic(auto, unfolding(commands::specs::Air::set_scan_response_data))]
-pub fn set_scan_response_data(s: Controller, p: &[u8; 32]) -> Answered<Advertising>
-    ensures { GivesAny (set_scan_response_data p.now) s (put_advertising result.part s) result.answer }
+pub fn set_scan_response_data(s: Controller, p: &[u8; 32]) -> Result<Advertising, ErrorCode>
+    ensures { YieldsAny done (set_scan_response_data p.now) put_advertising s.advertising s result }
 {
     match load_of(p) {
-        Some(load) => Answered::done(s.advertising.with_scan_response(load), SUCCESS),
-        None => Answered::done(s.advertising, INVALID_PARAMETERS),
+        Some(load) => Ok(s.advertising.with_scan_response(load)),
+        None => Err(ErrorCode::InvalidParameters),
     }
 }
 
@@ -103,14 +103,14 @@ fn lacks_address(s: Controller, enable: u8) -> bool
 }
 
 // LE Set Advertising Enable (section 7.8.9).
-pub fn set_advertising_enable(s: Controller, p: &[u8; 1]) -> Answered<Advertising>
-    ensures { GivesAny (set_advertising_enable p.now) s (put_advertising result.part s) result.answer }
+pub fn set_advertising_enable(s: Controller, p: &[u8; 1]) -> Result<Advertising, ErrorCode>
+    ensures { YieldsAny done (set_advertising_enable p.now) put_advertising s.advertising s result }
 {
     let mut advertising = s.advertising;
     let [enabled] = *p;
     if enabled > 1 || lacks_address(s, enabled) {
-        return Answered::done(advertising, INVALID_PARAMETERS);
+        return Err(ErrorCode::InvalidParameters);
     }
     advertising.enabled = enabled;
-    Answered::done(advertising, SUCCESS)
+    Ok(advertising)
 }

@@ -1,12 +1,14 @@
 // Initiating a connection, and giving it up.
 ghost use Rattle.std.specs.Prelude.{◌≡◌, not, ◌||◌, leb, eqb};
 ghost use Rattle.commands.specs.Air.{create_connection_valid, create_connection, create_connection_cancel};
-ghost use Rattle.commands.specs.Outcome.{GivesAny};
+ghost use Rattle.commands.specs.Outcome.{GivesAny, done};
+ghost use Rattle.answers.specs.Answers.{status};
+ghost use Rattle.commands.specs.Refused.{YieldsAny};
 ghost use Rattle.commands.specs.Put.{put_scanning};
 
 use crate::scanning::scan_times_valid;
-use commands::Answered;
-use hci::status::{COMMAND_DISALLOWED, INVALID_PARAMETERS, SUCCESS, UNKNOWN_CONNECTION};
+use commands::{Answered, ErrorCode};
+use hci::status::{SUCCESS, UNKNOWN_CONNECTION};
 use state::{Controller, Scanning};
 
 // The peer's address type counts with filter policy 0 only: with 1 the accept list names the peers.
@@ -36,19 +38,19 @@ fn create_connection_valid(p: &[u8; 25]) -> bool
 
 // LE Create Connection (section 7.8.12): not while initiating; then its parameters. The filter policy is kept.
 #[tactic(auto, unfolding(commands::specs::Air::create_connection))]
-pub fn create_connection(s: Controller, p: &[u8; 25]) -> Answered<Scanning>
-    ensures { GivesAny (create_connection p.now) s (put_scanning result.part s) result.answer }
+pub fn create_connection(s: Controller, p: &[u8; 25]) -> Result<Scanning, ErrorCode>
+    ensures { YieldsAny status (create_connection p.now) put_scanning s.scanning s result }
 {
     let mut scanning = s.scanning;
     if scanning.initiating != 0 {
-        return Answered::status(scanning, COMMAND_DISALLOWED);
+        return Err(ErrorCode::CommandDisallowed);
     }
     if !create_connection_valid(p) {
-        return Answered::status(scanning, INVALID_PARAMETERS);
+        return Err(ErrorCode::InvalidParameters);
     }
     scanning.initiating = 1;
     scanning.initiator_filter = p[4];
-    Answered::status(scanning, SUCCESS)
+    Ok(scanning)
 }
 
 // LE Create Connection Cancel (section 7.8.13): the event that the connection failed follows.
@@ -58,7 +60,7 @@ pub fn create_connection_cancel(s: Controller) -> Answered<Scanning>
 {
     let mut scanning = s.scanning;
     if scanning.initiating == 0 {
-        return Answered::done(scanning, COMMAND_DISALLOWED);
+        return Answered::done(scanning, Err(ErrorCode::CommandDisallowed));
     }
     scanning.initiating = 0;
     let done = answers::done(SUCCESS);

@@ -2,11 +2,11 @@
 ghost use Rattle.std.specs.Prelude.{◌≡◌, ◌&&◌, leb};
 ghost use Rattle.commands.specs.Air.{scan_parameters_valid, set_scan_parameters, set_scan_enable};
 ghost use Rattle.commands.specs.Checks.{within};
-ghost use Rattle.commands.specs.Outcome.{GivesAny};
+ghost use Rattle.commands.specs.Outcome.{done};
+ghost use Rattle.commands.specs.Refused.{YieldsAny};
 ghost use Rattle.commands.specs.Put.{put_scanning};
 
-use commands::Answered;
-use hci::status::{COMMAND_DISALLOWED, INVALID_PARAMETERS, SUCCESS};
+use commands::ErrorCode;
 use state::{Controller, Scanning};
 
 // Scan interval and window 0x0004 to 0x4000, the window at most the interval: the same to scan and to initiate.
@@ -30,29 +30,29 @@ fn scan_parameters_valid(p: &[u8; 7]) -> bool
 
 // LE Set Scan Parameters (section 7.8.10): not while scanning.
 #[tactic(auto, unfolding(commands::specs::Air::set_scan_parameters))]
-pub fn set_scan_parameters(s: Controller, p: &[u8; 7]) -> Answered<Scanning>
-    ensures { GivesAny (set_scan_parameters p.now) s (put_scanning result.part s) result.answer }
+pub fn set_scan_parameters(s: Controller, p: &[u8; 7]) -> Result<Scanning, ErrorCode>
+    ensures { YieldsAny done (set_scan_parameters p.now) put_scanning s.scanning s result }
 {
     let mut scanning = s.scanning;
     if scanning.enable[0] != 0 {
-        return Answered::done(scanning, COMMAND_DISALLOWED);
+        return Err(ErrorCode::CommandDisallowed);
     }
     if !scan_parameters_valid(p) {
-        return Answered::done(scanning, INVALID_PARAMETERS);
+        return Err(ErrorCode::InvalidParameters);
     }
     scanning.params.copy_from_slice(p);
-    Answered::done(scanning, SUCCESS)
+    Ok(scanning)
 }
 
 // LE Set Scan Enable (section 7.8.11).
 #[tactic(auto, unfolding(commands::specs::Air::set_scan_enable))]
-pub fn set_scan_enable(s: Controller, p: &[u8; 2]) -> Answered<Scanning>
-    ensures { GivesAny (set_scan_enable p.now) s (put_scanning result.part s) result.answer }
+pub fn set_scan_enable(s: Controller, p: &[u8; 2]) -> Result<Scanning, ErrorCode>
+    ensures { YieldsAny done (set_scan_enable p.now) put_scanning s.scanning s result }
 {
     let mut scanning = s.scanning;
     if p[0] > 1 || p[1] > 1 {
-        return Answered::done(scanning, INVALID_PARAMETERS);
+        return Err(ErrorCode::InvalidParameters);
     }
     scanning.enable.copy_from_slice(p);
-    Answered::done(scanning, SUCCESS)
+    Ok(scanning)
 }

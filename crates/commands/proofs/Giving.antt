@@ -26,6 +26,7 @@ use Rattle.commands.specs.Parts.{with_links}
 use Rattle.commands.specs.Put.{put_settings, put_advertising, put_accept_list}
 use Rattle.commands.specs.Put.{put_resolving_list, put_links, put_counters, put_recent}
 use Rattle.commands.specs.Outcome.{Outcome, outcome, Answers, Gives}
+use Rattle.commands.specs.Refused.{GivesStatus}
 
 -- ---- an answer alone
 
@@ -98,3 +99,22 @@ module _ {f : Model → Outcome} {k : ControllerRow} {s : Controller} where
   pub gives_as : {g : Model → Outcome} {u t : Controller} {a : Answer} → Gives f k s t a
       → ((size : ℕ) (pool : List ℕ) → f (view s size pool) ≡ g (view u size pool)) → Gives g k u t a
   gives_as h same = record { viewed = λ size pool. h.viewed size pool ∙ same size pool; held = h.held; shaped = h.shaped }
+
+-- ---- the status of a command that may be refused, beside the state after it
+
+module _ {form : ℕ → AnswerModel} {f : Model → Outcome} {k : ControllerRow} {s : Controller} {code : ℕ} where
+  -- the definition f says so
+  pub gives_status : {t : Controller} → ((size : ℕ) (pool : List ℕ) → f (view s size pool) ≡ outcome (form code) (view t size pool))
+      → StateHolds t k → GivesStatus form f k s t code
+  gives_status same held = record { viewed = λ size pool. sym (same size pool); held = held }
+
+  -- the connection of handle h changed by g, which keeps its handle
+  pub gives_status_changed : {r : Links} (h : ℕ) (g : Connection → Connection)
+      → ((c : Connection) → (g c).handle ≡ c.handle) → Changes h g s.links r
+      → ((size : ℕ) (pool : List ℕ)
+      → f (view s size pool) ≡ outcome (form code) (with_links (links.changed h g (view s size pool).links) (view s size pool)))
+      → StateHolds s k → GivesStatus form f k s (put_links r s) code
+  gives_status_changed h g keeps x same held =
+      gives_status
+      (λ size pool. same size pool ∙ ap (λ (y : links.Model). outcome (form code) (with_links y (view s size pool))) (sym (x.viewed size pool)))
+      (holds_links held (changed_holds s.links held.links h g keeps x))

@@ -4,6 +4,7 @@ pub mod Status
 pub mod Parts
 pub mod Put
 pub mod Outcome
+pub mod Refused
 pub mod Checks
 pub mod Following
 pub mod Known

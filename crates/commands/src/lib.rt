@@ -5,11 +5,13 @@
 #![tactic(auto)]
 
 mod checks;
+mod error;
 mod events;
 mod parts;
 mod table;
 
 pub use checks::{connection_params_valid, data_length_valid, long_at, long_octets, phys, within};
+pub use error::ErrorCode;
 pub use events::{
     followed_by_connection_failed, followed_by_encryption_change, followed_by_event,
     followed_by_le, followed_by_update,

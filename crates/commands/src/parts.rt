@@ -1,17 +1,21 @@
 // The answer of a command beside the one part of the state that the command changes, which is smaller to hand back than the
 // whole, or, for Reset, beside the state; and how a part is put back into the state.
 ghost use Rattle.std.specs.Prelude.{◌≡◌, refl};
+ghost use Rattle.std.specs.Result.{result_unwrap_or};
 ghost use Rattle.state.specs.declared.Controller.{Controller};
 ghost use Rattle.state.specs.declared.Counters.{Counters};
 ghost use Rattle.state.specs.declared.Recent.{Recent};
 ghost use Rattle.state.specs.declared.Settings.{Settings};
 ghost use Rattle.answers.specs.Answers.{status};
 ghost use Rattle.commands.specs.Outcome.{Answers, done, done_handle};
+ghost use Rattle.commands.specs.Refused.{status_of};
 ghost use Rattle.commands.specs.Put.{put_masks, put_settings, put_advertising, put_scanning, put_accept_list};
 ghost use Rattle.commands.specs.Put.{put_resolving_list, put_links, put_counters, noted_in};
 
+use crate::ErrorCode;
 use answers::Answer;
 use filters::{AcceptList, ResolvingList};
+use hci::status::SUCCESS;
 use links::Links;
 use state::{Advertising, Controller, Masks, Scanning, Settings};
 
@@ -21,36 +25,51 @@ pub struct Answered<P> {
     pub answer: Answer,
 }
 
-// A method for each kind of answer: one that were handed how to make it would be called by more words than it saves.
-impl<P> Answered<P> {
-    // The part as it is to be, refused or not, and a status.
-    pub fn done(part: P, code: u8) -> Answered<P>
-        ensures { (result.part ≡ part) × Answers (done code) result.answer }
+// What a command gives that may be refused: then the part is as it was before. A method for each form in which the status is told:
+// one that were handed how to tell it would be called by more words than it saves. Inline, or the part would be copied once more.
+impl<P: Copy> Answered<P> {
+    // By Command Complete with a status alone.
+    #[inline(always)]
+    pub fn done(before: P, outcome: Result<P, ErrorCode>) -> Answered<P>
+        ensures { (result.part ≡ result_unwrap_or outcome before) × Answers (done (status_of outcome)) result.answer }
     {
         Answered {
-            part,
-            answer: answers::done(code),
+            part: outcome.unwrap_or(before),
+            answer: answers::done(status_of(outcome)),
         }
     }
 
-    // The same with a status and a handle.
-    pub fn done_handle(part: P, code: u8, handle: u16) -> Answered<P>
-        ensures { (result.part ≡ part) × Answers (done_handle code handle) result.answer }
+    // By Command Complete with a status and a handle.
+    #[inline(always)]
+    pub fn done_handle(before: P, outcome: Result<P, ErrorCode>, handle: u16) -> Answered<P>
+        ensures { (result.part ≡ result_unwrap_or outcome before) × Answers (done_handle (status_of outcome) handle) result.answer }
     {
         Answered {
-            part,
-            answer: answers::done_handle(code, handle),
+            part: outcome.unwrap_or(before),
+            answer: answers::done_handle(status_of(outcome), handle),
         }
     }
 
-    // The same by Command Status.
-    pub fn status(part: P, code: u8) -> Answered<P>
-        ensures { (result.part ≡ part) × Answers (status code) result.answer }
+    // By Command Status.
+    #[inline(always)]
+    pub fn status(before: P, outcome: Result<P, ErrorCode>) -> Answered<P>
+        ensures { (result.part ≡ result_unwrap_or outcome before) × Answers (status (status_of outcome)) result.answer }
     {
         Answered {
-            part,
-            answer: answers::status(code),
+            part: outcome.unwrap_or(before),
+            answer: answers::status(status_of(outcome)),
         }
+    }
+}
+
+// The status of what a command gives.
+#[inline(always)]
+fn status_of<P: Copy>(outcome: Result<P, ErrorCode>) -> u8
+    ensures { result ≡ status_of outcome }
+{
+    match outcome {
+        Ok(_) => SUCCESS,
+        Err(code) => code.into(),
     }
 }
 

@@ -13,8 +13,11 @@ impl CommandPart for Links {
     #[tactic(auto, unfolding(commands::specs::Table::find))]
     fn carry_out(s: Controller, profile: ControllerRow, op: u16, p: &[u8]) -> Answered<Links> {
         match op {
-            0x0406 => known::disconnect(s, exactly(p)),
-            0x0C7C => known::write_auth_payload_timeout(s, exactly(p)),
+            0x0406 => Answered::status(s.links, known::disconnect(s, exactly(p))),
+            0x0C7C => {
+                let outcome = known::write_auth_payload_timeout(s, exactly(p));
+                Answered::done_handle(s.links, outcome, octets::word_at(p, 0))
+            }
             0x2013 => link::connection_update(s, exactly(p)),
             0x201A => link::long_term_key_reply(s, exactly(p)),
             0x201B => link::long_term_key_negative_reply(s, exactly(p)),

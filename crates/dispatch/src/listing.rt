@@ -12,12 +12,13 @@ impl CommandPart for AcceptList {
 
     #[tactic(auto, unfolding(commands::specs::Table::find))]
     fn carry_out(s: Controller, profile: ControllerRow, op: u16, p: &[u8]) -> Answered<AcceptList> {
-        match op {
+        let outcome = match op {
             0x2010 => air::clear_accept_list(s),
             0x2011 => air::add_to_accept_list(s, profile, exactly(p)),
             // 0x2012: `requires` rules any other out.
             _ => air::remove_from_accept_list(s, exactly(p)),
-        }
+        };
+        Answered::done(s.accept_list, outcome)
     }
 }
 
@@ -31,12 +32,13 @@ impl CommandPart for ResolvingList {
         op: u16,
         p: &[u8],
     ) -> Answered<ResolvingList> {
-        match op {
+        let outcome = match op {
             0x2027 => privacy::add_to_resolving_list(s, profile, exactly(p)),
             0x2028 => privacy::remove_from_resolving_list(s, exactly(p)),
             0x2029 => privacy::clear_resolving_list(s),
             // 0x204E: `requires` rules any other out.
             _ => privacy::set_privacy_mode(s, exactly(p)),
-        }
+        };
+        Answered::done(s.resolving_list, outcome)
     }
 }

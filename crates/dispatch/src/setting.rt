@@ -3,7 +3,6 @@ ghost use Rattle.dispatch.specs.declared.Part.TheVariants as part;
 
 use crate::{CommandPart, exactly};
 use commands::Answered;
-use hci::status::SUCCESS;
 use profile::ControllerRow;
 use state::{Advertising, Controller, Masks, Scanning, Settings};
 
@@ -19,7 +18,7 @@ impl CommandPart for Masks {
             // 0x2001: `requires` rules any other out.
             _ => air::set_le_event_mask(s.masks, exactly(p)),
         };
-        Answered::done(masks, SUCCESS)
+        Answered::done(s.masks, Ok(masks))
     }
 }
 
@@ -28,7 +27,7 @@ impl CommandPart for Settings {
 
     #[tactic(auto, unfolding(commands::specs::Table::find))]
     fn carry_out(s: Controller, profile: ControllerRow, op: u16, p: &[u8]) -> Answered<Settings> {
-        match op {
+        let outcome = match op {
             0x0C31 => known::set_host_flow_control(s, exactly(p)),
             0x2005 => air::set_random_address(s, exactly(p)),
             0x2024 => link::write_suggested_data_length(s, exactly(p)),
@@ -37,12 +36,13 @@ impl CommandPart for Settings {
             0x2031 => privacy::set_default_phy(s, profile, exactly(p)),
             0x201D => test_and_power::receiver_test(s, profile, exactly(p)),
             0x201E => test_and_power::transmitter_test(s, profile, exactly(p)),
-            0x201F => test_and_power::test_end(s),
+            0x201F => return test_and_power::test_end(s),
             0x2033 => test_and_power::receiver_test_v2(s, profile, exactly(p)),
             0x2034 => test_and_power::transmitter_test_v2(s, profile, exactly(p)),
             // 0x204D: `requires` rules any other out.
             _ => test_and_power::write_path_compensation(s, exactly(p)),
-        }
+        };
+        Answered::done(s.settings, outcome)
     }
 }
 
@@ -56,13 +56,14 @@ impl CommandPart for Advertising {
         op: u16,
         p: &[u8],
     ) -> Answered<Advertising> {
-        match op {
+        let outcome = match op {
             0x2006 => air::set_advertising_parameters(s, exactly(p)),
             0x2008 => air::set_advertising_data(s, exactly(p)),
             0x2009 => air::set_scan_response_data(s, exactly(p)),
             // 0x200A: `requires` rules any other out.
             _ => air::set_advertising_enable(s, exactly(p)),
-        }
+        };
+        Answered::done(s.advertising, outcome)
     }
 }
 
@@ -72,9 +73,9 @@ impl CommandPart for Scanning {
     #[tactic(auto, unfolding(commands::specs::Table::find))]
     fn carry_out(s: Controller, _profile: ControllerRow, op: u16, p: &[u8]) -> Answered<Scanning> {
         match op {
-            0x200B => air::set_scan_parameters(s, exactly(p)),
-            0x200C => air::set_scan_enable(s, exactly(p)),
-            0x200D => air::create_connection(s, exactly(p)),
+            0x200B => Answered::done(s.scanning, air::set_scan_parameters(s, exactly(p))),
+            0x200C => Answered::done(s.scanning, air::set_scan_enable(s, exactly(p))),
+            0x200D => Answered::status(s.scanning, air::create_connection(s, exactly(p))),
             // 0x200E: `requires` rules any other out.
             _ => air::create_connection_cancel(s),
         }

@@ -1,15 +1,16 @@
 // The commands of the controller and baseband (Core Vol 4 Part E section 7.3): the event masks, Reset, flow control towards the
 // host, the transmit power and the authenticated payload timeout.
 ghost use Rattle.std.specs.Prelude.{◌≡◌, ◌≤◌};
-ghost use Rattle.octets.specs.Octets.{number_at};
+ghost use Rattle.octets.specs.Octets.{number_at, word};
 ghost use Rattle.links.specs.Links.{CountsFit, opened};
 ghost use Rattle.commands.specs.Parts.{with_event_mask, with_event_mask_page2};
 ghost use Rattle.commands.specs.Put.{put_settings, put_links};
-ghost use Rattle.commands.specs.Outcome.{Answers, GivesAny};
+ghost use Rattle.commands.specs.Outcome.{Answers, GivesAny, done, done_handle};
+ghost use Rattle.commands.specs.Refused.{YieldsAny};
 ghost use Rattle.commands.specs.Known as definition;
 
 use answers::Answer;
-use commands::Answered;
+use commands::{Answered, ErrorCode};
 use hci::status::{INVALID_PARAMETERS, SUCCESS, UNKNOWN_CONNECTION};
 use links::{Connection, Links};
 use profile::ControllerRow;
@@ -40,7 +41,7 @@ pub fn set_event_mask_page2(masks: Masks, p: &[u8; 8]) -> Masks
 pub fn reset(s: Controller) -> Answered<Controller>
     ensures { GivesAny definition.reset s result.part result.answer }
 {
-    Answered::done(state::reset(s), SUCCESS)
+    Answered::done(s, Ok(state::reset(s)))
 }
 
 // Read Transmit Power Level (section 7.3.35).
@@ -74,16 +75,16 @@ fn power_level(profile: ControllerRow, kind: u8) -> u8
 
 // Set Controller To Host Flow Control (section 7.3.38): kept, and nothing more.
 #[tactic(auto, unfolding(commands::specs::Known::set_host_flow_control))]
-pub fn set_host_flow_control(s: Controller, p: &[u8; 1]) -> Answered<Settings>
-    ensures { GivesAny (definition.set_host_flow_control p.now) s (put_settings result.part s) result.answer }
+pub fn set_host_flow_control(s: Controller, p: &[u8; 1]) -> Result<Settings, ErrorCode>
+    ensures { YieldsAny done (definition.set_host_flow_control p.now) put_settings s.settings s result }
 {
     let mut settings = s.settings;
     let [host_flow_control] = *p;
     if host_flow_control > 3 {
-        return Answered::done(settings, INVALID_PARAMETERS);
+        return Err(ErrorCode::InvalidParameters);
     }
     settings.host_flow_control = host_flow_control;
-    Answered::done(settings, SUCCESS)
+    Ok(settings)
 }
 
 // Host Buffer Size (section 7.3.39): accepted unread.
@@ -127,22 +128,18 @@ pub fn read_auth_payload_timeout(p: &[u8; 2], links: Links) -> Answer
 
 // Write Authenticated Payload Timeout (section 7.3.94).
 #[tactic(auto, unfolding(commands::specs::Known::write_auth_payload_timeout))]
-pub fn write_auth_payload_timeout(s: Controller, p: &[u8; 4]) -> Answered<Links>
+pub fn write_auth_payload_timeout(s: Controller, p: &[u8; 4]) -> Result<Links, ErrorCode>
     requires { CountsFit s.links }
-    ensures { GivesAny (definition.write_auth_payload_timeout p.now) s (put_links result.part s) result.answer }
+    ensures { YieldsAny (λ code. done_handle code (word p.now 0)) (definition.write_auth_payload_timeout p.now)
+        put_links s.links s result }
 {
     let handle = octets::word_at(p, 0);
     let timeout = octets::word_at(p, 2);
-    match links::connection_of(s.links, handle) {
-        None => Answered::done_handle(s.links, UNKNOWN_CONNECTION, handle),
-        Some(c) => {
-            if payload_timeout_short(timeout, c) {
-                return Answered::done_handle(s.links, INVALID_PARAMETERS, handle);
-            }
-            let with_timeout = links::set_auth_payload_timeout(s.links, handle, timeout);
-            Answered::done_handle(with_timeout, SUCCESS, handle)
-        }
+    let c = links::connection_of(s.links, handle).ok_or(ErrorCode::UnknownConnection)?;
+    if payload_timeout_short(timeout, c) {
+        return Err(ErrorCode::InvalidParameters);
     }
+    Ok(links::set_auth_payload_timeout(s.links, handle, timeout))
 }
 
 // Whether a timeout is 0 or shorter than connInterval * (1 + latency). It is in 10 ms units and the interval in 1.25 ms units,

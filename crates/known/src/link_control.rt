@@ -2,14 +2,16 @@
 ghost use Rattle.std.specs.Prelude.{◌≡◌, ◌≤◌};
 ghost use Rattle.links.specs.Links.{CountsFit, opened};
 ghost use Rattle.commands.specs.Put.{put_links};
-ghost use Rattle.commands.specs.Outcome.{Answers, GivesAny};
+ghost use Rattle.commands.specs.Outcome.{Answers};
+ghost use Rattle.answers.specs.Answers.{status};
+ghost use Rattle.commands.specs.Refused.{YieldsAny};
 ghost use Rattle.commands.specs.Known as definition;
 
 use answers::Answer;
-use commands::Answered;
+use commands::ErrorCode;
 use hci::event_code::READ_REMOTE_VERSION_COMPLETE;
 use hci::mask;
-use hci::status::{COMMAND_DISALLOWED, INVALID_PARAMETERS, SUCCESS, UNKNOWN_CONNECTION};
+use hci::status::{SUCCESS, UNKNOWN_CONNECTION};
 use links::Links;
 use profile::ControllerRow;
 use state::{Controller, Masks};
@@ -24,24 +26,20 @@ fn reason_allowed(reason: u8) -> bool
 
 // Disconnect (section 7.1.6). The link stays until the peer has acknowledged; then a notice ends it.
 #[tactic(auto, unfolding(commands::specs::Known::disconnect))]
-pub fn disconnect(s: Controller, p: &[u8; 3]) -> Answered<Links>
+pub fn disconnect(s: Controller, p: &[u8; 3]) -> Result<Links, ErrorCode>
     requires { CountsFit s.links }
-    ensures { GivesAny (definition.disconnect p.now) s (put_links result.part s) result.answer }
+    ensures { YieldsAny status (definition.disconnect p.now) put_links s.links s result }
 {
     let reason = p[2];
     if !reason_allowed(reason) {
-        return Answered::status(s.links, INVALID_PARAMETERS);
+        return Err(ErrorCode::InvalidParameters);
     }
     let handle = octets::word_at(p, 0);
-    match links::connection_of(s.links, handle) {
-        None => Answered::status(s.links, UNKNOWN_CONNECTION),
-        Some(c) => {
-            if c.terminating != 0 {
-                return Answered::status(s.links, COMMAND_DISALLOWED);
-            }
-            Answered::status(links::set_terminating(s.links, handle, reason), SUCCESS)
-        }
+    let c = links::connection_of(s.links, handle).ok_or(ErrorCode::UnknownConnection)?;
+    if c.terminating != 0 {
+        return Err(ErrorCode::CommandDisallowed);
     }
+    Ok(links::set_terminating(s.links, handle, reason))
 }
 
 // Read Remote Version Information (section 7.1.23): the peer reports the controller's own identity.

@@ -3,14 +3,15 @@ ghost use Rattle.std.specs.Prelude.{◌≡◌, ◌&&◌, eqb};
 ghost use Rattle.octets.specs.Octets.{word};
 ghost use Rattle.links.specs.Links.{CountsFit};
 ghost use Rattle.answers.specs.Answers.{followed};
-ghost use Rattle.commands.specs.Outcome.{Answers, GivesAny, done_handle};
+ghost use Rattle.commands.specs.Outcome.{Answers, GivesAny, done, done_handle};
+ghost use Rattle.commands.specs.Refused.{YieldsAny};
 ghost use Rattle.commands.specs.Put.{put_links, put_settings};
 ghost use Rattle.commands.specs.Link.{new_octets, new_time, data_length_change, set_data_length};
 ghost use Rattle.commands.specs.Link.{read_suggested_data_length, write_suggested_data_length};
 
 use answers::Answer;
-use commands::Answered;
-use hci::status::{INVALID_PARAMETERS, SUCCESS, UNKNOWN_CONNECTION};
+use commands::{Answered, ErrorCode};
+use hci::status::SUCCESS;
 use hci::subevent::DATA_LENGTH_CHANGE;
 use links::{Connection, Links};
 use profile::ControllerRow;
@@ -76,10 +77,10 @@ pub fn set_data_length(s: Controller, profile: ControllerRow, p: &[u8; 6]) -> An
 {
     let handle = octets::word_at(p, 0);
     if !commands::data_length_valid(octets::word_at(p, 2), octets::word_at(p, 4)) {
-        return Answered::done_handle(s.links, INVALID_PARAMETERS, handle);
+        return Answered::done_handle(s.links, Err(ErrorCode::InvalidParameters), handle);
     }
     let Some(c) = links::connection_of(s.links, handle) else {
-        return Answered::done_handle(s.links, UNKNOWN_CONNECTION, handle);
+        return Answered::done_handle(s.links, Err(ErrorCode::UnknownConnection), handle);
     };
     let octets = new_octets(profile, p);
     let time = new_time(profile, p);
@@ -102,15 +103,15 @@ pub fn read_suggested_data_length(settings: Settings) -> Answer
 
 // LE Write Suggested Default Data Length (section 7.8.35).
 #[tactic(auto, unfolding(commands::specs::Link::write_suggested_data_length))]
-pub fn write_suggested_data_length(s: Controller, p: &[u8; 4]) -> Answered<Settings>
-    ensures { GivesAny (write_suggested_data_length p.now) s (put_settings result.part s) result.answer }
+pub fn write_suggested_data_length(s: Controller, p: &[u8; 4]) -> Result<Settings, ErrorCode>
+    ensures { YieldsAny done (write_suggested_data_length p.now) put_settings s.settings s result }
 {
     let octets = octets::word_at(p, 0);
     let time = octets::word_at(p, 2);
     let mut settings = s.settings;
     if !commands::data_length_valid(octets, time) {
-        return Answered::done(settings, INVALID_PARAMETERS);
+        return Err(ErrorCode::InvalidParameters);
     }
     settings.suggested_data_length = [octets, time];
-    Answered::done(settings, SUCCESS)
+    Ok(settings)
 }

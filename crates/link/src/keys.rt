@@ -7,8 +7,8 @@ ghost use Rattle.commands.specs.Put.{put_links};
 ghost use Rattle.commands.specs.Link.{enable_encryption, key_reply, long_term_key_reply, long_term_key_negative_reply};
 
 use answers::Answer;
-use commands::Answered;
-use hci::status::{COMMAND_DISALLOWED, SUCCESS, UNKNOWN_CONNECTION};
+use commands::{Answered, ErrorCode};
+use hci::status::{SUCCESS, UNKNOWN_CONNECTION};
 use links::Links;
 use state::{Controller, Masks};
 
@@ -33,10 +33,10 @@ fn key_reply(s: Controller, handle: u16, answer: Answer) -> Answered<Links>
         → GivesAny (key_reply handle event) s (put_links result.part s) result.answer }
 {
     let Some(c) = links::connection_of(s.links, handle) else {
-        return Answered::done_handle(s.links, UNKNOWN_CONNECTION, handle);
+        return Answered::done_handle(s.links, Err(ErrorCode::UnknownConnection), handle);
     };
     if c.ltk_requested == 0 {
-        return Answered::done_handle(s.links, COMMAND_DISALLOWED, handle);
+        return Answered::done_handle(s.links, Err(ErrorCode::CommandDisallowed), handle);
     }
     Answered {
         part: links::set_ltk_requested(s.links, handle, 0),

@@ -7,8 +7,8 @@ ghost use Rattle.commands.specs.Link.{parameter_request_reply, parameter_request
 
 use crate::update;
 use answers::Answer;
-use commands::Answered;
-use hci::status::{INVALID_PARAMETERS, SUCCESS, UNKNOWN_CONNECTION};
+use commands::{Answered, ErrorCode};
+use hci::status::{SUCCESS, UNKNOWN_CONNECTION};
 use links::Links;
 use state::Controller;
 
@@ -20,10 +20,10 @@ pub fn parameter_request_reply(s: Controller, p: &[u8; 14]) -> Answered<Links>
 {
     let handle = octets::word_at(p, 0);
     if !update::update_valid(p) {
-        return Answered::done_handle(s.links, INVALID_PARAMETERS, handle);
+        return Answered::done_handle(s.links, Err(ErrorCode::InvalidParameters), handle);
     }
     if !links::has(s.links, handle) {
-        return Answered::done_handle(s.links, UNKNOWN_CONNECTION, handle);
+        return Answered::done_handle(s.links, Err(ErrorCode::UnknownConnection), handle);
     }
     update::apply_params(s.links, s.masks, p, answers::done_handle(SUCCESS, handle))
 }

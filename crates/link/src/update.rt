@@ -7,8 +7,8 @@ ghost use Rattle.commands.specs.Link.{update_valid, connection_update};
 ghost use Rattle.link.specs.Link.{Applied};
 
 use answers::Answer;
-use commands::Answered;
-use hci::status::{INVALID_PARAMETERS, SUCCESS, UNKNOWN_CONNECTION};
+use commands::{Answered, ErrorCode};
+use hci::status::SUCCESS;
 use links::{Links, Timing};
 use state::{Controller, Masks};
 
@@ -50,10 +50,10 @@ pub fn connection_update(s: Controller, p: &[u8; 14]) -> Answered<Links>
 {
     let handle = octets::word_at(p, 0);
     if !update_valid(p) {
-        return Answered::status(s.links, INVALID_PARAMETERS);
+        return Answered::status(s.links, Err(ErrorCode::InvalidParameters));
     }
     if !links::has(s.links, handle) {
-        return Answered::status(s.links, UNKNOWN_CONNECTION);
+        return Answered::status(s.links, Err(ErrorCode::UnknownConnection));
     }
     apply_params(s.links, s.masks, p, answers::status(SUCCESS))
 }

@@ -2,13 +2,14 @@
 ghost use Rattle.std.specs.Prelude.{◌≤◌};
 ghost use Rattle.links.specs.Links.{CountsFit, opened};
 ghost use Rattle.commands.specs.Put.{put_settings, put_links};
-ghost use Rattle.commands.specs.Outcome.{Answers, GivesAny};
+ghost use Rattle.commands.specs.Outcome.{Answers, GivesAny, done};
+ghost use Rattle.commands.specs.Refused.{YieldsAny};
 ghost use Rattle.commands.specs.Privacy.{read_maximum_data_length, read_phy, set_default_phy, set_phy};
 
 use crate::preference::{phy_preference_empty, phy_preference_unsupported, pick_phy};
 use answers::Answer;
-use commands::Answered;
-use hci::status::{INVALID_PARAMETERS, SUCCESS, UNKNOWN_CONNECTION, UNSUPPORTED_FEATURE};
+use commands::{Answered, ErrorCode};
+use hci::status::{SUCCESS, UNKNOWN_CONNECTION};
 use hci::subevent::PHY_UPDATE_COMPLETE;
 use links::Links;
 use profile::ControllerRow;
@@ -51,19 +52,23 @@ pub fn read_phy(p: &[u8; 2], links: Links) -> Answer
 
 // LE Set Default PHY (section 7.8.48).
 #[tactic(auto, unfolding(commands::specs::Privacy::set_default_phy))]
-pub fn set_default_phy(s: Controller, profile: ControllerRow, p: &[u8; 3]) -> Answered<Settings>
-    ensures { GivesAny (set_default_phy profile p.now) s (put_settings result.part s) result.answer }
+pub fn set_default_phy(
+    s: Controller,
+    profile: ControllerRow,
+    p: &[u8; 3],
+) -> Result<Settings, ErrorCode>
+    ensures { YieldsAny done (set_default_phy profile p.now) put_settings s.settings s result }
 {
     let mut settings = s.settings;
     let [all, tx, rx] = *p;
     if phy_preference_empty(all, tx, rx) {
-        return Answered::done(settings, INVALID_PARAMETERS);
+        return Err(ErrorCode::InvalidParameters);
     }
     if phy_preference_unsupported(profile, all, tx, rx) {
-        return Answered::done(settings, UNSUPPORTED_FEATURE);
+        return Err(ErrorCode::UnsupportedFeature);
     }
     settings.default_phy = [all, tx, rx];
-    Answered::done(settings, SUCCESS)
+    Ok(settings)
 }
 
 // LE Set PHY (section 7.8.49): the handle alone is tested.
@@ -74,7 +79,7 @@ pub fn set_phy(s: Controller, profile: ControllerRow, p: &[u8; 7]) -> Answered<L
 {
     let handle = octets::word_at(p, 0);
     let Some(c) = links::connection_of(s.links, handle) else {
-        return Answered::status(s.links, UNKNOWN_CONNECTION);
+        return Answered::status(s.links, Err(ErrorCode::UnknownConnection));
     };
     let all = p[2];
     let tx = pick_phy(profile, all % 2 == 1, p[3], c.tx_phy);

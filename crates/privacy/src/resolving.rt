@@ -4,17 +4,16 @@ ghost use Rattle.lists.specs.Lists.{any};
 ghost use Rattle.filters.specs.Filters.{resolving_entries, has_identity};
 ghost use Rattle.state.specs.State.{view};
 ghost use Rattle.commands.specs.Put.{put_resolving_list};
-ghost use Rattle.commands.specs.Outcome.{Answers, Gives, GivesAny, Ready};
+ghost use Rattle.commands.specs.Outcome.{Answers, Ready, done};
+ghost use Rattle.commands.specs.Refused.{Yields, YieldsAny};
 ghost use Rattle.commands.specs.Privacy.{add_to_resolving_list, remove_from_resolving_list, clear_resolving_list};
 ghost use Rattle.commands.specs.Privacy.{read_resolving_list_size, set_privacy_mode};
 ghost use Rattle.commands.specs.Privacy.{locked as is_locked};
 
 use answers::Answer;
-use commands::Answered;
+use commands::ErrorCode;
 use filters::ResolvingList;
-use hci::status::{
-    COMMAND_DISALLOWED, INVALID_PARAMETERS, MEMORY_CAPACITY_EXCEEDED, SUCCESS, UNKNOWN_CONNECTION,
-};
+use hci::status::SUCCESS;
 use profile::ControllerRow;
 use state::Controller;
 
@@ -41,53 +40,53 @@ pub fn add_to_resolving_list(
     s: Controller,
     profile: ControllerRow,
     p: &[u8; 39],
-) -> Answered<ResolvingList>
+) -> Result<ResolvingList, ErrorCode>
     requires { Ready s profile }
-    ensures { Gives (add_to_resolving_list profile p.now) profile s (put_resolving_list result.part s) result.answer }
+    ensures { Yields done (add_to_resolving_list profile p.now) profile put_resolving_list s.resolving_list s result }
 {
     let list = s.resolving_list;
     if locked(s) {
-        return Answered::done(list, COMMAND_DISALLOWED);
+        return Err(ErrorCode::CommandDisallowed);
     }
     if p[0] > 1 {
-        return Answered::done(list, INVALID_PARAMETERS);
+        return Err(ErrorCode::InvalidParameters);
     }
     let identity = filters::identity(p);
     if listed(list, identity) {
-        return Answered::done(list, INVALID_PARAMETERS);
+        return Err(ErrorCode::InvalidParameters);
     }
     if list.count >= usize::from(profile.resolving_list_size) {
-        return Answered::done(list, MEMORY_CAPACITY_EXCEEDED);
+        return Err(ErrorCode::MemoryCapacityExceeded);
     }
-    Answered::done(list.push(identity), SUCCESS)
+    Ok(list.push(identity))
 }
 
 // LE Remove Device From Resolving List (section 7.8.39).
 #[tactic(auto, unfolding(commands::specs::Privacy::remove_from_resolving_list))]
-pub fn remove_from_resolving_list(s: Controller, p: &[u8; 7]) -> Answered<ResolvingList>
+pub fn remove_from_resolving_list(s: Controller, p: &[u8; 7]) -> Result<ResolvingList, ErrorCode>
     requires { s.resolving_list.count ≤ 16 }
-    ensures { GivesAny (remove_from_resolving_list p.now) s (put_resolving_list result.part s) result.answer }
+    ensures { YieldsAny done (remove_from_resolving_list p.now) put_resolving_list s.resolving_list s result }
 {
     let list = s.resolving_list;
     if locked(s) {
-        return Answered::done(list, COMMAND_DISALLOWED);
+        return Err(ErrorCode::CommandDisallowed);
     }
     let identity = filters::identity(p);
     if !listed(list, identity) {
-        return Answered::done(list, UNKNOWN_CONNECTION);
+        return Err(ErrorCode::UnknownConnection);
     }
-    Answered::done(list.remove(identity), SUCCESS)
+    Ok(list.remove(identity))
 }
 
 // LE Clear Resolving List (section 7.8.40).
 #[tactic(auto, unfolding(commands::specs::Privacy::clear_resolving_list))]
-pub fn clear_resolving_list(s: Controller) -> Answered<ResolvingList>
-    ensures { GivesAny clear_resolving_list s (put_resolving_list result.part s) result.answer }
+pub fn clear_resolving_list(s: Controller) -> Result<ResolvingList, ErrorCode>
+    ensures { YieldsAny done clear_resolving_list put_resolving_list s.resolving_list s result }
 {
     if locked(s) {
-        return Answered::done(s.resolving_list, COMMAND_DISALLOWED);
+        return Err(ErrorCode::CommandDisallowed);
     }
-    Answered::done(ResolvingList::new(), SUCCESS)
+    Ok(ResolvingList::new())
 }
 
 // LE Read Resolving List Size (section 7.8.41).
@@ -101,21 +100,21 @@ pub fn read_resolving_list_size(profile: ControllerRow) -> Answer
 // LE Set Privacy Mode (section 7.8.77): network privacy 0, device privacy 1. It shares its two refusals with the removal, but
 // tests the mode between them: one function with a closure would be longer than what it shares.
 #[tactic(auto, unfolding(commands::specs::Privacy::set_privacy_mode))]
-pub fn set_privacy_mode(s: Controller, p: &[u8; 8]) -> Answered<ResolvingList>
+pub fn set_privacy_mode(s: Controller, p: &[u8; 8]) -> Result<ResolvingList, ErrorCode>
     requires { s.resolving_list.count ≤ 16 }
-    ensures { GivesAny (set_privacy_mode p.now) s (put_resolving_list result.part s) result.answer }
+    ensures { YieldsAny done (set_privacy_mode p.now) put_resolving_list s.resolving_list s result }
 {
     let list = s.resolving_list;
     if locked(s) {
-        return Answered::done(list, COMMAND_DISALLOWED);
+        return Err(ErrorCode::CommandDisallowed);
     }
     let mode = p[7];
     if mode > 1 {
-        return Answered::done(list, INVALID_PARAMETERS);
+        return Err(ErrorCode::InvalidParameters);
     }
     let identity = filters::identity(p);
     if !listed(list, identity) {
-        return Answered::done(list, UNKNOWN_CONNECTION);
+        return Err(ErrorCode::UnknownConnection);
     }
-    Answered::done(list.set_mode(identity, mode), SUCCESS)
+    Ok(list.set_mode(identity, mode))
 }

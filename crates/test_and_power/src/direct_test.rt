@@ -2,14 +2,15 @@
 // there.
 ghost use Rattle.std.specs.Prelude.{◌≡◌, [], ◌≤◌};
 ghost use Rattle.state.specs.State.{view};
-ghost use Rattle.commands.specs.Outcome.{Gives, GivesAny, Ready};
+ghost use Rattle.commands.specs.Outcome.{GivesAny, Ready, done};
+ghost use Rattle.commands.specs.Refused.{Yields};
 ghost use Rattle.commands.specs.Put.{put_settings};
 ghost use Rattle.commands.specs.Test.{idle as is_idle};
 ghost use Rattle.commands.specs.Test.{test_phy, start_test, test_end};
 ghost use Rattle.commands.specs.Test.{receiver_test, transmitter_test, receiver_test2, transmitter_test2};
 
-use commands::Answered;
-use hci::status::{COMMAND_DISALLOWED, INVALID_PARAMETERS, SUCCESS, UNSUPPORTED_FEATURE};
+use commands::{Answered, ErrorCode};
+use hci::status::{COMMAND_DISALLOWED, SUCCESS};
 use profile::ControllerRow;
 use state::{Controller, Settings};
 
@@ -52,21 +53,21 @@ fn start_test(
     channel: u8,
     phy: u8,
     allowed: bool,
-) -> Answered<Settings>
+) -> Result<Settings, ErrorCode>
     requires { Ready s profile }
-    ensures { Gives (start_test profile transmit channel phy allowed) profile s (put_settings result.part s) result.answer }
+    ensures { Yields done (start_test profile transmit channel phy allowed) profile put_settings s.settings s result }
 {
     if !idle(s) {
-        return Answered::done(s.settings, COMMAND_DISALLOWED);
+        return Err(ErrorCode::CommandDisallowed);
     }
     if channel > LAST_CHANNEL {
-        return Answered::done(s.settings, INVALID_PARAMETERS);
+        return Err(ErrorCode::InvalidParameters);
     }
     if !test_phy(profile, transmit, phy) {
-        return Answered::done(s.settings, UNSUPPORTED_FEATURE);
+        return Err(ErrorCode::UnsupportedFeature);
     }
     if !allowed {
-        return Answered::done(s.settings, INVALID_PARAMETERS);
+        return Err(ErrorCode::InvalidParameters);
     }
     let mut settings = s.settings;
     settings.test = if transmit {
@@ -74,40 +75,56 @@ fn start_test(
     } else {
         state::RECEIVER_TEST
     };
-    Answered::done(settings, SUCCESS)
+    Ok(settings)
 }
 
 // LE Receiver Test v1 (section 7.8.28): LE 1M.
-pub fn receiver_test(s: Controller, profile: ControllerRow, p: &[u8; 1]) -> Answered<Settings>
+pub fn receiver_test(
+    s: Controller,
+    profile: ControllerRow,
+    p: &[u8; 1],
+) -> Result<Settings, ErrorCode>
     requires { Ready s profile }
-    ensures { Gives (receiver_test profile p.now) profile s (put_settings result.part s) result.answer }
+    ensures { Yields done (receiver_test profile p.now) profile put_settings s.settings s result }
 {
     let [channel] = *p;
     start_test(s, profile, false, channel, 1, true)
 }
 
 // LE Transmitter Test v1 (section 7.8.29): LE 1M, payload to 7.
-pub fn transmitter_test(s: Controller, profile: ControllerRow, p: &[u8; 3]) -> Answered<Settings>
+pub fn transmitter_test(
+    s: Controller,
+    profile: ControllerRow,
+    p: &[u8; 3],
+) -> Result<Settings, ErrorCode>
     requires { Ready s profile }
-    ensures { Gives (transmitter_test profile p.now) profile s (put_settings result.part s) result.answer }
+    ensures { Yields done (transmitter_test profile p.now) profile put_settings s.settings s result }
 {
     let [channel, _, payload] = *p;
     start_test(s, profile, true, channel, 1, payload <= 0x07)
 }
 
 // LE Receiver Test v2 (section 7.8.28): channel, PHY, modulation index to 1.
-pub fn receiver_test_v2(s: Controller, profile: ControllerRow, p: &[u8; 3]) -> Answered<Settings>
+pub fn receiver_test_v2(
+    s: Controller,
+    profile: ControllerRow,
+    p: &[u8; 3],
+) -> Result<Settings, ErrorCode>
     requires { Ready s profile }
-    ensures { Gives (receiver_test2 profile p.now) profile s (put_settings result.part s) result.answer }
+    ensures { Yields done (receiver_test2 profile p.now) profile put_settings s.settings s result }
 {
     let [channel, phy, modulation] = *p;
     start_test(s, profile, false, channel, phy, modulation <= 1)
 }
 
 // LE Transmitter Test v2 (section 7.8.29): channel, length, payload to 7, PHY.
-pub fn transmitter_test_v2(s: Controller, profile: ControllerRow, p: &[u8; 4]) -> Answered<Settings>
+pub fn transmitter_test_v2(
+    s: Controller,
+    profile: ControllerRow,
+    p: &[u8; 4],
+) -> Result<Settings, ErrorCode>
     requires { Ready s profile }
-    ensures { Gives (transmitter_test2 profile p.now) profile s (put_settings result.part s) result.answer }
+    ensures { Yields done (transmitter_test2 profile p.now) profile put_settings s.settings s result }
 {
     let [channel, _, payload, phy] = *p;
     start_test(s, profile, true, channel, phy, payload <= 0x07)

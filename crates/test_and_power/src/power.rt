@@ -2,13 +2,14 @@
 ghost use Rattle.std.specs.Prelude.{◌≡◌, ◌+◌, ◌≤◌, length};
 ghost use Rattle.octets.specs.Octets.{word};
 ghost use Rattle.signed.specs.Signed.{compensation_allowed};
-ghost use Rattle.commands.specs.Outcome.{Answers, GivesAny};
+ghost use Rattle.commands.specs.Outcome.{Answers, done};
+ghost use Rattle.commands.specs.Refused.{YieldsAny};
 ghost use Rattle.commands.specs.Put.{put_settings};
 ghost use Rattle.commands.specs.Test.{read_power_range, read_path_compensation, write_path_compensation};
 
 use answers::Answer;
-use commands::Answered;
-use hci::status::{INVALID_PARAMETERS, SUCCESS};
+use commands::ErrorCode;
+use hci::status::SUCCESS;
 use profile::ControllerRow;
 use state::{Controller, Settings};
 
@@ -41,15 +42,15 @@ pub fn read_path_compensation(settings: Settings) -> Answer
 
 // LE Write RF Path Compensation (section 7.8.76): -128.0 dB (0xFB00) to 128.0 dB (0x0500) in 0.1 dB.
 #[tactic(auto, unfolding(commands::specs::Test::write_path_compensation))]
-pub fn write_path_compensation(s: Controller, p: &[u8; 4]) -> Answered<Settings>
-    ensures { GivesAny (write_path_compensation p.now) s (put_settings result.part s) result.answer }
+pub fn write_path_compensation(s: Controller, p: &[u8; 4]) -> Result<Settings, ErrorCode>
+    ensures { YieldsAny done (write_path_compensation p.now) put_settings s.settings s result }
 {
     if !(allowed_at(p, 0) && allowed_at(p, 2)) {
-        return Answered::done(s.settings, INVALID_PARAMETERS);
+        return Err(ErrorCode::InvalidParameters);
     }
     let mut settings = s.settings;
     settings.rf_path_compensation = [octets::word_at(p, 0), octets::word_at(p, 2)];
-    Answered::done(settings, SUCCESS)
+    Ok(settings)
 }
 
 // Whether the two octets at index at, as a signed number, are a path compensation.

@@ -2,8 +2,7 @@
 use Rattle.std.proofs.Common.{[], rules}
 use Rattle.state.proofs.Keeping.{accept_added}
 use Rattle.commands.specs.Air.{add_to_accept_list}
-use Rattle.commands.specs.Put.{put_accept_list}
-use Rattle.commands.proofs.Giving.{gives_part, holds_accept_list}
+use Rattle.commands.proofs.Giving.{gives_status, holds_accept_list}
 use Rattle.air.proofs.accepting.add_to_accept_list.Goals as goal
 
 pub returns-then-accept_list_in_use : goal.returns-then-accept_list_in_use
@@ -24,5 +23,5 @@ returns-in-Some c =
     let in_use = c.accept_list_in_use.ensures 0 [] in
     let ready = c.requires in
     let room = rw (c.from-size.ensures, c.accept_entry.ensures) at c.in-Some.ensures in
-    gives_part put_accept_list c.done-in-Some.ensures (λ size pool. search rules)
+    gives_status (λ size pool. search rules)
     (holds_accept_list ready.holds (accept_added _ ready.holds.accept ready.limits.most_accept room.1))

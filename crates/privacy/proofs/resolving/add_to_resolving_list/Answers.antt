@@ -2,9 +2,8 @@
 use Rattle.std.proofs.Common.{rules, arith, ◌≡◌, length}
 use Rattle.filters.proofs.Kept.{resolving_count}
 use Rattle.state.proofs.Keeping.{resolving_pushed}
-use Rattle.commands.specs.Put.{put_resolving_list}
 use Rattle.commands.specs.Privacy.{add_to_resolving_list}
-use Rattle.commands.proofs.Giving.{gives_part, holds_resolving_list}
+use Rattle.commands.proofs.Giving.{gives_status, holds_resolving_list}
 use Rattle.privacy.proofs.Identity.{identity_absent}
 use Rattle.privacy.proofs.resolving.add_to_resolving_list.Goals as goal
 
@@ -22,6 +21,6 @@ returns c =
     let identity = c.identity-identity.result in
     let holds = c.requires.holds in
     let seven : length identity ≡ 7 = search rules in
-    gives_part put_resolving_list c.done-2.ensures (λ size pool. search rules)
+    gives_status (λ size pool. search rules)
     (holds_resolving_list holds (resolving_pushed identity holds.resolving c.requires.limits.most_resolving seven
     (identity_absent list identity c.listed.ensures c.if-listed.false) (omega arith) c.push.ensures))
