@@ -19,7 +19,8 @@ use Rattle.lists.proofs.Update.{update_prefix, update_none, length_update}
 use Rattle.links.specs.declared.Connection.{Connection}
 use Rattle.links.specs.declared.Waiting.{Waiting}
 use Rattle.links.specs.declared.Links.{Links}
-use Rattle.links.specs.Links.{CountsFit, opened, waiting_of, view, packet_of, has_handle, packet_for, has, can_open, ended, opened_last, settled, changed}
+use Rattle.links.specs.Links.{CountsFit, opened, waiting_of, view, packet_of, has_handle, packet_for, has, can_open, ended}
+use Rattle.links.specs.Links.{opened_last, settled, changed}
 use Rattle.links.specs.Change.{ListsOf, Changes, other_than, away_from}
 use Rattle.lists.proofs.Counting.{any_count}
 

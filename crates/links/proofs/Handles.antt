@@ -18,7 +18,8 @@ use Rattle.links.specs.Links.{Model, has_handle, has, ended, opened_last, change
 use Rattle.links.specs.Look.{connection_of}
 use Rattle.links.specs.Change.{other_than}
 use Rattle.links.specs.Holding.{handle_of}
-use Rattle.links.specs.Fields.{with_parameters, with_data_length, with_phys, with_ltk_requested, with_auth_payload_timeout, with_terminating}
+use Rattle.links.specs.Fields.{with_parameters, with_data_length, with_phys, with_ltk_requested, with_auth_payload_timeout}
+use Rattle.links.specs.Fields.{with_terminating}
 
 -- ---- a filter and a test
 module _ {A : Type 0} where

@@ -1,7 +1,8 @@
 -- The links as lists: connections in the order in which they were opened, one queue of the packets that wait in all of
 -- them, oldest first, and the number in flight; and what each operation does to them. Read beside the source's
 -- `connections`, `tx`, `acl_in_flight`. A link's own queue is the part of the queue with its handle.
-use Rattle.std.specs.Prelude.{ℕ, zero, suc, ◌+◌, ◌-◌, ◌≤◌, List, [], ◌∷◌, ◌++◌, map, Bool, cond, not, ◌||◌, eqb, ltb, length, take}
+use Rattle.std.specs.Prelude.{ℕ, zero, suc, ◌+◌, ◌-◌, ◌≤◌, List, [], ◌∷◌, ◌++◌, map, Bool, cond, not, ◌||◌, eqb, ltb, length}
+use Rattle.std.specs.Prelude.{take}
 use Rattle.lists.specs.Lists.{any, keep, taken, leaving, update_first, read_at}
 use Rattle.links.specs.declared.Connection.{Connection}
 use Rattle.links.specs.declared.Waiting.{Waiting}

@@ -23,7 +23,8 @@ fn keep_passing<T: Copy, F: Fn(&T) -> bool>(items: &mut [T], passes: F) -> usize
     kept
 }
 
-// The links without the connection of this handle. The array is filtered as a local: of a field lent in part the proof did not close.
+// The links without the connection of this handle. The array is filtered as a local: of a field lent in part the proof did not
+// close. One form with `discard_waiting` would be handed the field and its count by closures, which is longer than both.
 fn close_handle(mut links: Links, handle: u16) -> Links
     requires { CountsFit links }
     ensures { ListsOf result (keep (other_than handle) (opened links)) (waiting_of links) links.in_flight }
@@ -51,7 +52,8 @@ fn discard_waiting(mut links: Links, handle: u16) -> Links
 pub fn end_connection(links: Links, handle: u16) -> Links
     requires { CountsFit links }
     ensures viewed { (size : ℕ) (pool : List ℕ) → view result size pool ≡ ended handle (view links size pool) }
-    ensures lists { ListsOf result (keep (other_than handle) (opened links)) (keep (away_from handle) (waiting_of links)) links.in_flight }
+    ensures lists { ListsOf result (keep (other_than handle) (opened links)) (keep (away_from handle) (waiting_of links))
+        links.in_flight }
 {
     let closed = close_handle(links, handle);
     discard_waiting(closed, handle)
@@ -70,8 +72,11 @@ fn push_connection(mut links: Links, c: Connection) -> Links
 // The links with the handle opened last. A link with the handle ends first, and its queue with it.
 pub fn open_connection(links: Links, handle: u16, timing: Timing) -> Links
     requires { CountsFit links × (can_open handle (opened links) ≡ true) }
-    ensures viewed { (size : ℕ) (pool : List ℕ) → view result size pool ≡ opened_last (new_connection handle timing.interval timing.latency timing.timeout) (view links size pool) }
-    ensures lists { ListsOf result (keep (other_than handle) (opened links) ++ (new_connection handle timing.interval timing.latency timing.timeout ∷ [])) (keep (away_from handle) (waiting_of links)) links.in_flight }
+    ensures viewed { (size : ℕ) (pool : List ℕ) → view result size pool
+        ≡ opened_last (new_connection handle timing.interval timing.latency timing.timeout) (view links size pool) }
+    ensures lists { ListsOf result
+        (keep (other_than handle) (opened links) ++ (new_connection handle timing.interval timing.latency timing.timeout ∷ []))
+        (keep (away_from handle) (waiting_of links)) links.in_flight }
 {
     let rest = end_connection(links, handle);
     push_connection(

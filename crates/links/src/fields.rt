@@ -1,7 +1,9 @@
 // Changing one connection: each function sets some fields of the connection of a handle. An unknown handle changes nothing.
+// What they share is `change`; a setter each stays, since each is its own promise to the commands.
 ghost use Rattle.links.specs.Links.{CountsFit};
 ghost use Rattle.links.specs.Change.{Changes, ChangesBy};
-ghost use Rattle.links.specs.Fields.{with_parameters, with_data_length, with_phys, with_ltk_requested, with_auth_payload_timeout, with_terminating};
+ghost use Rattle.links.specs.Fields.{with_parameters, with_data_length, with_phys, with_terminating};
+ghost use Rattle.links.specs.Fields.{with_ltk_requested, with_auth_payload_timeout};
 
 use crate::{Connection, Links, Timing, look};
 

@@ -1,7 +1,7 @@
 // Question 3 about the links, decided exactly. It is asked at every exported call, so the handles are gathered once into an
 // array of numbers. Their lowest octets nearly always tell that they differ; otherwise, and to find a packet's handle, loops of
 // constant count look through the numbers without an early exit.
-ghost use Rattle.std.specs.Prelude.{◌≡◌, true, ◌&&◌, List, ℕ, ◌≤◌, length, take};
+ghost use Rattle.std.specs.Prelude.{◌≡◌, true, ◌&&◌, List, ℕ, ◌≤◌, take};
 ghost use Rattle.lists.specs.Lists.{any, all, keyed, distinct};
 ghost use Rattle.links.specs.declared.Connection.{Connection};
 ghost use Rattle.links.specs.Holding.{links_hold, handle_of, place_of};
@@ -11,7 +11,7 @@ use crate::{Connection, Links, Waiting};
 
 // The handles of the first n connections. At each later index stands a number that is no handle, another at each.
 pub fn handles_of(connections: &[Connection; 16], n: usize) -> [u32; 16]
-    requires { (n ≤ 16) × (length connections.now ≡ 16) }
+    requires { n ≤ 16 }
     ensures { Gathers n connections.now result }
 {
     let mut handles: [u32; 16] = [
@@ -26,7 +26,6 @@ pub fn handles_of(connections: &[Connection; 16], n: usize) -> [u32; 16]
 
 // Whether the number stands among the sixteen.
 pub fn stands(numbers: &[u32; 16], x: u32) -> bool
-    requires { length numbers.now ≡ 16 }
     ensures { result ≡ any (keyed itself x) numbers.now }
 {
     let mut met = false;
@@ -38,7 +37,6 @@ pub fn stands(numbers: &[u32; 16], x: u32) -> bool
 
 // How many times the number stands among the sixteen.
 fn times(numbers: &[u32; 16], x: u32) -> u32
-    requires { length numbers.now ≡ 16 }
     ensures { result ≡ times_in x numbers.now }
 {
     let mut t = 0;
@@ -51,7 +49,7 @@ fn times(numbers: &[u32; 16], x: u32) -> u32
 // Whether the lowest octets of the first n numbers differ. Handles are given out from 1 on, so nearly always they do, and then
 // the handles need not be compared. The octets that have been met are marked.
 fn lowest_octets_differ(handles: &[u32; 16], n: usize) -> bool
-    requires { (n ≤ 16) × (length handles.now ≡ 16) }
+    requires { n ≤ 16 }
     ensures { result ≡ true → distinct itself (take n handles.now) ≡ true }
 {
     let mut met = [false; 256];
@@ -67,7 +65,7 @@ fn lowest_octets_differ(handles: &[u32; 16], n: usize) -> bool
 
 // Whether the first n handles differ: their lowest octets do, or each stands once among the sixteen numbers.
 fn handles_differ(handles: &[u32; 16], n: usize) -> bool
-    requires { (n ≤ 16) × (length handles.now ≡ 16) }
+    requires { n ≤ 16 }
     ensures { (cs : List Connection) → Gathers n cs handles.now → result ≡ distinct handle_of (take n cs) }
 {
     lowest_octets_differ(handles, n) || handles[..n].iter().all(|x| times(handles, *x) == 1)
@@ -75,7 +73,6 @@ fn handles_differ(handles: &[u32; 16], n: usize) -> bool
 
 // Whether a waiting packet has a place of the pool, a length that the place holds, and a handle among those gathered.
 fn packet_holds(w: Waiting, handles: &[u32; 16], places: usize, size: usize) -> bool
-    requires { length handles.now ≡ 16 }
     ensures { (k : ℕ) (cs : List Connection) → handles.now ≡ gathered k cs → result ≡ packet_holds places size (take k cs) w }
 {
     usize::from(w.place) < places
@@ -86,8 +83,8 @@ fn packet_holds(w: Waiting, handles: &[u32; 16], places: usize, size: usize) -> 
 
 // Whether the waiting packets hold, and no two own one place. The places that have been met are marked.
 fn packets_hold(waiting: &[Waiting], handles: &[u32; 16], places: usize, size: usize) -> bool
-    requires { length handles.now ≡ 16 }
-    ensures { (k : ℕ) (cs : List Connection) → handles.now ≡ gathered k cs → result ≡ (distinct place_of waiting.now && all (packet_holds places size (take k cs)) waiting.now) }
+    ensures { (k : ℕ) (cs : List Connection) → handles.now ≡ gathered k cs
+        → result ≡ (distinct place_of waiting.now && all (packet_holds places size (take k cs)) waiting.now) }
 {
     let mut met = [false; 256];
     for w in waiting {

@@ -16,7 +16,7 @@ handle_small x cs i d e h = lt-ltb _ _ (rw (← e) h)
 
 pub loop-i-init : goal.loop-i-init
 unfolding all
-loop-i-init c = (gather_start c.args.connections.now c.requires.1, refl)
+loop-i-init c = (gather_start c.args.connections.now (omega arith), refl)
 
 pub loop-i-preserved : goal.loop-i-preserved
 loop-i-preserved c =

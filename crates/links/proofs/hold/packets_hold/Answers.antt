@@ -8,7 +8,8 @@ use Rattle.lists.proofs.Prefix.{all_more, differ_more, differ_fails, all_not}
 use Rattle.lists.proofs.Marking.{marks_none, marks_more}
 use Rattle.links.specs.Holding.{place_of}
 use Rattle.links.specs.Gather.{packet_holds}
-use Rattle.links.proofs.hold.packets_hold.Goals.{then-met-place-via-then-met-place, then-met-place-via-else-met-place+then-not-packet_holds}
+use Rattle.links.proofs.hold.packets_hold.Goals.{then-met-place-via-then-met-place}
+use Rattle.links.proofs.hold.packets_hold.Goals.{then-met-place-via-else-met-place+then-not-packet_holds}
 use Rattle.links.proofs.hold.packets_hold.Goals as goal
 
 pub loop-w-init : goal.loop-w-init

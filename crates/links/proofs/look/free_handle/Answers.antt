@@ -31,4 +31,5 @@ returns c =
     let s = c.args.links in
     let h = c.loop-h.h in
     let e : h ≡ 0x0EFF = omega arith in
-    sym e ∙ free_end (opened s) (free_handle (opened s)) (0x0EFF - h) h (c.loop-h.invariant s.count s.connections c.handles_of-handles.ensures.keys) (omega arith)
+    sym e ∙ free_end (opened s) (free_handle (opened s)) (0x0EFF - h) h
+    (c.loop-h.invariant s.count s.connections c.handles_of-handles.ensures.keys) (omega arith)
