@@ -105,7 +105,8 @@ fed_taken {s} {buffer} {bytes} {after} {r} f n = go (fits s buffer bytes) refl w
   go false h = absurd (n (f.answers ∙ rw h))
 
 -- packets: the first n octets of the buffer are the packets, and what waits is the rest
-module _ {s : H4Stream} {buffer bytes after : List ℕ} {r : FedStream} (f : Feeds s buffer bytes r after) (n : ℕ) (e : r.answer ≡ Ok n) where
+module _ {s : H4Stream} {buffer bytes after : List ℕ} {r : FedStream} (f : Feeds s buffer bytes r after) (n : ℕ)
+    (e : r.answer ≡ Ok n) where
   packets_taken : Taken s buffer bytes r after
   packets_taken = fed_taken f (λ k. cc)
 
@@ -153,7 +154,8 @@ module _ {s : H4Stream} {buffer bytes after : List ℕ} {r : FedStream} (f : Fee
       packet_past (take r.stream.ready after) i (omega (arith, length-take r.stream.ready after, fed_ready))
 
 -- framing lost: all the octets stay, and there is nothing to hand out
-module _ {s : H4Stream} {buffer bytes after : List ℕ} {r : FedStream} (f : Feeds s buffer bytes r after) (i : ℕ) (e : r.answer ≡ Err (Undefined i)) where
+module _ {s : H4Stream} {buffer bytes after : List ℕ} {r : FedStream} (f : Feeds s buffer bytes r after) (i : ℕ)
+    (e : r.answer ≡ Err (Undefined i)) where
   lost_taken : Taken s buffer bytes r after
   lost_taken = fed_taken f (λ k. cc)
 

@@ -37,7 +37,8 @@ module _ (bytes : List ℕ) (at : ℕ) (f : Framing bytes at) where
       let next : drop n p ≡ drop (at + n) bytes = drop-drop n at bytes in
       let octets : whole_octets p ≡ n + whole_octets (drop (at + n) bytes) =
       ap whole_octets (sym split) ∙ octets_front (take n p) (drop n p) one ∙ ap₂ ◌+◌ size (ap whole_octets next) in
-      let after : rest p ≡ rest (drop (at + n) bytes) = ap rest (sym split) ∙ rest_front (take n p) (drop n p) one ∙ ap rest next in
+      let after : rest p ≡ rest (drop (at + n) bytes) =
+      ap rest (sym split) ∙ rest_front (take n p) (drop n p) one ∙ ap rest next in
       record { within = omega arith; octets = omega (arith, f.octets, octets); after = f.after ∙ after }
 
   -- no whole packet there: the way out, with what was read

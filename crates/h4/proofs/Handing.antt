@@ -20,7 +20,8 @@ pub packet_after : (ps : List (List ℕ)) (q : List ℕ) (qs : List (List ℕ)) 
     → packet_at (flatten (ps ++ q ∷ qs)) (length (flatten ps)) ≡ q
 unfolding flatten
 packet_after ps q qs e =
-    rw (flatten_append ps (q ∷ qs), drop-append_seam (flatten ps) (q ++ flatten qs), whole_front q (flatten qs) e) (take-append_seam q (flatten qs))
+    rw (flatten_append ps (q ∷ qs), drop-append_seam (flatten ps) (q ++ flatten qs), whole_front q (flatten qs) e)
+    (take-append_seam q (flatten qs))
 
 -- past the last there is none
 pub packet_past : (p : List ℕ) (i : ℕ) → length p ≤ i → packet_at p i ≡ []
@@ -35,9 +36,11 @@ one_of (p ∷ ps) q qs h = one_of ps q qs h.1
 drop_of_take : (n i end : ℕ) (p : List ℕ) → end ≡ min n (length p) → i ≤ end → drop i (take n p) ≡ take (end - i) (drop i p)
 drop_of_take n i end p e h =
     let l : length (take n p) ≡ end = length-take n p ∙ sym e in
-    let whole : drop i (take n p ++ drop n p) ≡ drop i (take n p) ++ drop n p = drop-append-le i (take n p) (drop n p) (omega arith) in
+    let whole : drop i (take n p ++ drop n p) ≡ drop i (take n p) ++ drop n p =
+    drop-append-le i (take n p) (drop n p) (omega arith) in
     let long : length (drop i (take n p)) ≡ end - i = length-drop i (take n p) ∙ ap (λ (m : ℕ). m - i) l in
-    sym (ap (take (end - i)) (ap (drop i) (sym (take-append-drop n p)) ∙ whole) ∙ take_at (drop i (take n p)) (drop n p) (end - i) long)
+    sym (ap (take (end - i)) (ap (drop i) (sym (take-append-drop n p)) ∙ whole)
+    ∙ take_at (drop i (take n p)) (drop n p) (end - i) long)
 
 -- so the packet at their front is the one that starts at index i
 pub packet_lent : (n i end : ℕ) (p : List ℕ) → end ≡ min n (length p) → i ≤ end

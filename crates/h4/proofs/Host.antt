@@ -18,7 +18,8 @@ use Rattle.h4.specs.declared.StreamError.TheVariants.{Undefined, NoRoom}
 
 -- one feed that finds room: what waits in the buffer after it, and the packets that it hands out, are those of the octets
 -- alone
-module _ {s : H4Stream} {buffer bytes after : List ℕ} {r : FedStream} (f : Feeds s buffer bytes r after) (n : r.answer ≡ Err NoRoom → ⊥) where
+module _ {s : H4Stream} {buffer bytes after : List ℕ} {r : FedStream} (f : Feeds s buffer bytes r after)
+    (n : r.answer ≡ Err NoRoom → ⊥) where
   answer_is : r.answer ≡ framed (held_octets s buffer ++ bytes)
   answer_is = (fed_taken f n).answers
 
@@ -37,9 +38,11 @@ module _ {s : H4Stream} {buffer bytes after : List ℕ} {r : FedStream} (f : Fee
         → packets (take r.stream.ready after) ≡ handed_out (held_octets s buffer) bytes
     go (Ok m) e =
         rw (ap is_lost (sym answer_is ∙ e))
-        (ap (λ (k : ℕ). packets (take k after)) (fed_ready f m e) ∙ ap packets (fed_packets f m e) ∙ packets_again (held_octets s buffer ++ bytes))
+        (ap (λ (k : ℕ). packets (take k after)) (fed_ready f m e) ∙ ap packets (fed_packets f m e)
+        ∙ packets_again (held_octets s buffer ++ bytes))
     go (Err (Undefined i)) e =
-        rw (ap is_lost (sym answer_is ∙ e)) (ap (λ (k : ℕ). packets (take k after)) (fed_lost_ready f i e) ∙ packets_none [] none_there)
+        rw (ap is_lost (sym answer_is ∙ e))
+        (ap (λ (k : ℕ). packets (take k after)) (fed_lost_ready f i e) ∙ packets_none [] none_there)
     go (Err NoRoom) e = absurd (n e)
 
 -- all the feeds of a caller: what they hand out, and what then waits
@@ -59,5 +62,7 @@ pub feeds_pieces : (s : H4Stream) (buffer : List ℕ) (parts out : List (List �
 feeds_pieces s buffer parts out t after f h e =
     let none : held_octets s buffer ≡ [] = ap (λ (n : ℕ). take n (drop s.ready buffer)) h in
     let all = feeds_handed_out s buffer parts out t after f in
-    let whole = pieces parts e in
-    (all.0 ∙ ap (λ (p : List ℕ). handed_out_all p parts) none ∙ whole.0, all.1 ∙ ap (λ (p : List ℕ). waiting_all p parts) none ∙ whole.1)
+    let whole = pieces parts e in (
+      all.0 ∙ ap (λ (p : List ℕ). handed_out_all p parts) none ∙ whole.0,
+      all.1 ∙ ap (λ (p : List ℕ). waiting_all p parts) none ∙ whole.1,
+    )

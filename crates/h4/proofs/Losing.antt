@@ -33,11 +33,12 @@ lost_append p q i e =
 -- it turns on the octets after the whole packets alone
 pub lost_by_rest : (p q : List ℕ) → rest p ≡ rest q → lost p ≡ lost q
 unfolding framed
-lost_by_rest p q e = ap (λ (t : List ℕ). is_lost (framed_at (packet_length t) (whole_octets p))) e ∙ any (packet_length (rest q)) where
-  any : (r : Said) → is_lost (framed_at r (whole_octets p)) ≡ is_lost (framed_at r (whole_octets q))
-  any (Ok m) = refl
-  any (Err (Undefined i)) = refl
-  any (Err NoRoom) = refl
+lost_by_rest p q e =
+    ap (λ (t : List ℕ). is_lost (framed_at (packet_length t) (whole_octets p))) e ∙ any (packet_length (rest q)) where
+      any : (r : Said) → is_lost (framed_at r (whole_octets p)) ≡ is_lost (framed_at r (whole_octets q))
+      any (Ok m) = refl
+      any (Err (Undefined i)) = refl
+      any (Err NoRoom) = refl
 
 -- framing answers whole packets or an indicator, nothing else
 pub framed_answers : (p : List ℕ) → (framed p ≡ Ok (whole_octets p)) ⊎ ((i : ℕ) × framed p ≡ Err (Undefined i))

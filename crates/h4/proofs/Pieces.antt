@@ -17,7 +17,8 @@ use Rattle.h4.specs.declared.StreamError.TheVariants.{Undefined}
 handed_then : (p bytes more : List ℕ) → handed_out p bytes ++ packets (waiting p bytes ++ more) ≡ packets ((p ++ bytes) ++ more)
 unfolding handed_out waiting
 handed_then p bytes more = go (lost (p ++ bytes)) where
-  go : (t : Bool) → cond t [] (packets (p ++ bytes)) ++ packets (cond t (p ++ bytes) (rest (p ++ bytes)) ++ more) ≡ packets ((p ++ bytes) ++ more)
+  go : (t : Bool) → cond t [] (packets (p ++ bytes)) ++ packets (cond t (p ++ bytes) (rest (p ++ bytes)) ++ more)
+      ≡ packets ((p ++ bytes) ++ more)
   go true = refl
   go false = sym (packets_append (p ++ bytes) more)
 
@@ -90,7 +91,8 @@ pieces parts e = pieces_from [] parts none_there e
 -- where framing is lost in the whole, it is lost in what waits after the pieces, at the same indicator
 pub pieces_lost : (parts : List (List ℕ)) (i : ℕ) → framed (flatten parts) ≡ Err (Undefined i)
     → framed (waiting_all [] parts) ≡ Err (Undefined i)
-pieces_lost parts i e = undefined_framed (waiting_all [] parts) i (ap packet_length (waiting_rest [] parts) ∙ framed_undefined (flatten parts) i e)
+pieces_lost parts i e =
+    undefined_framed (waiting_all [] parts) i (ap packet_length (waiting_rest [] parts) ∙ framed_undefined (flatten parts) i e)
 
 -- and in every case the packets handed out are the first ones of the whole
 pub pieces_first : (parts : List (List ℕ)) → handed_out_all [] parts ++ packets (waiting_all [] parts) ≡ packets (flatten parts)

@@ -189,7 +189,12 @@ unfolding whole
 front p = go (packet_length p) refl where
   fits : (n : ℕ) (t : Bool) → leb n (length p) ≡ t → packet_length p ≡ Ok (Some n) → (cond t n 0 ≡ 0) ⊎ Headed p
   fits n true h e =
-      inr (record { packet = take n p; behind = drop n p; one = take_packet p n e (leb-true n (length p) h); all = sym (take-append-drop n p) })
+      inr (record {
+        packet = take n p;
+        behind = drop n p;
+        one = take_packet p n e (leb-true n (length p) h);
+        all = sym (take-append-drop n p);
+      })
   fits n false h e = inl refl
 
   go : (r : Said) → packet_length p ≡ r → (whole_of r (length p) ≡ 0) ⊎ Headed p

@@ -37,7 +37,8 @@ upto_again : (n m : ℕ) (p : List ℕ)
 unfolding packets_up_to
 upto_again n m p f = go (eqb (whole p) 0) refl where
   go : (t : Bool) → eqb (whole p) 0 ≡ t
-      → cond t [] (take (whole p) p ∷ packets_up_to n (drop (whole p) p)) ≡ cond t [] (take (whole p) p ∷ packets_up_to m (drop (whole p) p))
+      → cond t [] (take (whole p) p ∷ packets_up_to n (drop (whole p) p))
+      ≡ cond t [] (take (whole p) p ∷ packets_up_to m (drop (whole p) p))
   go true e = refl
   go false e = ap (◌∷◌ (take (whole p) p)) (f (eqb-false (whole p) 0 e))
 
@@ -64,7 +65,8 @@ unfolding packets packets_up_to
 packets_some p f =
     let l : length (drop (whole p) p) ≡ length p - whole p = length-drop (whole p) p in
     enough (length p) (suc (length p)) p (omega arith) (omega arith)
-    ∙ rw (ne_eqb (whole p) 0 f) (ap (◌∷◌ (take (whole p) p)) (enough (length p) (length (drop (whole p) p)) (drop (whole p) p) (omega arith) (omega arith)))
+    ∙ rw (ne_eqb (whole p) 0 f)
+    (ap (◌∷◌ (take (whole p) p)) (enough (length p) (length (drop (whole p) p)) (drop (whole p) p) (omega arith) (omega arith)))
 
 -- one packet with octets behind it
 pub packets_front : (p q : List ℕ) → IsPacket p → packets (p ++ q) ≡ p ∷ packets q
@@ -91,7 +93,8 @@ unfolding flatten
 octets_front p q e = rw (packets_front p q e) (length-append p (flatten (packets q)))
 
 -- what holds where no packet is whole, and with one packet more in front, holds of all octets
-module _ (P : List ℕ → Type 0) (none : (p : List ℕ) → whole p ≡ 0 → P p) (some : (p q : List ℕ) → IsPacket p → P q → P (p ++ q)) where
+module _ (P : List ℕ → Type 0) (none : (p : List ℕ) → whole p ≡ 0 → P p)
+    (some : (p q : List ℕ) → IsPacket p → P q → P (p ++ q)) where
   headed : {p : List ℕ} → (h : Headed p) → (length h.behind < length p → P h.behind) → P p
   headed h f =
       let long = packet_size h.packet (length h.packet) h.one in
@@ -123,11 +126,15 @@ octets_le p = omega (arith, length-append (flatten (packets p)) (rest p), ap len
 
 -- each of them is one packet
 pub packets_are : (p : List ℕ) → ArePackets (packets p)
-packets_are = by_packets (λ p. ArePackets (packets p)) (λ p e. rw (packets_none p e) tt) (λ p q e h. rw (packets_front p q e) (e, h))
+packets_are =
+    by_packets (λ p. ArePackets (packets p)) (λ p e. rw (packets_none p e) tt)
+    (λ p q e h. rw (packets_front p q e) (e, h))
 
 -- the rest holds no whole packet
 pub whole_rest : (p : List ℕ) → whole (rest p) ≡ 0
-whole_rest = by_packets (λ p. whole (rest p) ≡ 0) (λ p e. ap whole (rest_none p e) ∙ e) (λ p q e h. ap whole (rest_front p q e) ∙ h)
+whole_rest =
+    by_packets (λ p. whole (rest p) ≡ 0) (λ p e. ap whole (rest_none p e) ∙ e)
+    (λ p q e h. ap whole (rest_front p q e) ∙ h)
 
 -- octets behind: the packets that were whole stay, and the rest is split with what comes behind it
 pub packets_append : (p q : List ℕ) → packets (p ++ q) ≡ packets p ++ packets (rest p ++ q)
@@ -139,7 +146,8 @@ packets_append p q =
 pub rest_append : (p q : List ℕ) → rest (p ++ q) ≡ rest (rest p ++ q)
 rest_append p q =
     by_packets (λ p. rest (p ++ q) ≡ rest (rest p ++ q)) (λ p e. rw (rest_none p e))
-    (λ p r e h. ap rest (append_assoc p r q) ∙ rest_front p (r ++ q) e ∙ h ∙ ap (λ (t : List ℕ). rest (t ++ q)) (sym (rest_front p r e))) p
+    (λ p r e h. ap rest (append_assoc p r q) ∙ rest_front p (r ++ q) e ∙ h
+    ∙ ap (λ (t : List ℕ). rest (t ++ q)) (sym (rest_front p r e))) p
 
 -- End to end
 
@@ -163,7 +171,8 @@ none_there = omega (arith, whole_le [])
 
 -- with none behind them: the packets are read back, and nothing is left
 pub packets_flattened : (ps : List (List ℕ)) → ArePackets ps → packets (flatten ps) ≡ ps
-packets_flattened ps h = ap packets (sym (append-nil (flatten ps))) ∙ packets_flatten ps [] h ∙ rw (packets_none [] none_there, append-nil)
+packets_flattened ps h =
+    ap packets (sym (append-nil (flatten ps))) ∙ packets_flatten ps [] h ∙ rw (packets_none [] none_there, append-nil)
 
 pub rest_flattened : (ps : List (List ℕ)) → ArePackets ps → rest (flatten ps) ≡ []
 rest_flattened ps h = ap rest (sym (append-nil (flatten ps))) ∙ rest_flatten ps [] h ∙ rest_none [] none_there

@@ -1,6 +1,7 @@
 -- The packet at the front of some octets, and the packets that a run of octets splits into (Core Vol 4 Part A section 2
 -- for the indicators, Part E sections 5.4.1 to 5.4.5 for the length fields). For everyone who reads packets off a stream.
-use Rattle.std.specs.Prelude.{◌≡◌, ℕ, zero, suc, ◌+◌, ◌%◌, Option, Some, None, Result, Ok, Err, cond, length, take, drop, leb, eqb}
+use Rattle.std.specs.Prelude.{◌≡◌, ℕ, zero, suc, ◌+◌, ◌%◌, Option, Some, None, Result, Ok, Err, cond, length, take, drop, leb}
+use Rattle.std.specs.Prelude.{eqb}
 use mathlib.Core.List.{List, [], ◌∷◌, flatten}
 use Rattle.octets.specs.Octets.{octet, word}
 use Rattle.h4.specs.declared.StreamError.{StreamError}

@@ -1,7 +1,8 @@
 -- A stream of octets framed into packets over a lent buffer: what feeding it answers and leaves. For callers of H4Stream.
 -- The buffer's first `ready` octets are the packets of the last feed, end to end; the next `held` octets belong to no
 -- whole packet yet.
-use Rattle.std.specs.Prelude.{◌≡◌, ℕ, ◌+◌, ◌-◌, List, [], ◌∷◌, ◌++◌, Result, Ok, Err, Bool, true, false, cond, ◌&&◌, length, take, drop, leb}
+use Rattle.std.specs.Prelude.{◌≡◌, ℕ, ◌+◌, ◌-◌, List, [], ◌∷◌, ◌++◌, Result, Ok, Err, Bool, true, false, cond, ◌&&◌, length}
+use Rattle.std.specs.Prelude.{take, drop, leb}
 use Rattle.octets.specs.Octets.{splice}
 use Rattle.h4.specs.Framing.{packets, rest, framed}
 use Rattle.h4.specs.declared.H4Stream.{H4Stream}
@@ -26,7 +27,8 @@ stream_of (Err e) p = record { ready = 0; held = length p }
 -- number: document 01's numbers are for the controller's calls and the HCI writers, each for its own cause alone
 pub record Feeds (s : H4Stream) (buffer bytes : List ℕ) (r : FedStream) (after : List ℕ) : Type 0 where
   pub answers : r.answer ≡ cond (fits s buffer bytes) (framed (held_octets s buffer ++ bytes)) (Err NoRoom)
-  pub stream : r.stream ≡ cond (fits s buffer bytes) (stream_of (framed (held_octets s buffer ++ bytes)) (held_octets s buffer ++ bytes)) s
+  pub stream : r.stream
+      ≡ cond (fits s buffer bytes) (stream_of (framed (held_octets s buffer ++ bytes)) (held_octets s buffer ++ bytes)) s
   pub leaves : after ≡ cond (fits s buffer bytes) (splice buffer 0 (held_octets s buffer ++ bytes)) buffer
 
 -- Feeding as a host sees it, octets alone: what is handed out, and what then waits

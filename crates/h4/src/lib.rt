@@ -94,8 +94,7 @@ impl H4Stream {
     pub fn feed(self, buffer: &mut [u8], bytes: &[u8]) -> FedStream
         ensures { Feeds self buffer.old bytes.now result buffer.new }
     {
-        let ready = self.ready;
-        let held = self.held;
+        let H4Stream { ready, held } = self;
         let room = buffer.len();
         if room < ready || room - ready < held || room - held < bytes.len() {
             return FedStream {
@@ -120,8 +119,7 @@ impl H4Stream {
     pub fn packet_at(self, buffer: &[u8], at: usize) -> &[u8]
         ensures { result.now ≡ packet_at (take self.ready buffer.now) at }
     {
-        let ready = self.ready;
-        let end = ready.min(buffer.len());
+        let end = self.ready.min(buffer.len());
         if end <= at {
             return &buffer[..0];
         }
