@@ -35,7 +35,9 @@ impl AcceptList {
     // Adds an entry: one that is present stays as it is, also where the list is full. None where it is full without it.
     pub fn add(self, entry: [u8; 7], size: usize) -> Option<AcceptList>
         requires { (self.count ≤ 32) × (size ≤ 32) }
-        ensures { MatchOption result (is_full size entry (accept_entries self) ≡ true) (λ list. (is_full size entry (accept_entries self) ≡ false) × (accept_entries list ≡ added size entry (accept_entries self))) }
+        ensures { MatchOption result (is_full size entry (accept_entries self) ≡ true)
+            (λ list. (is_full size entry (accept_entries self) ≡ false)
+            × (accept_entries list ≡ added size entry (accept_entries self))) }
     {
         let n = self.count;
         if self.contains(entry) {

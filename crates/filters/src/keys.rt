@@ -29,8 +29,8 @@ pub fn key_at(octets: &[u8], at: usize) -> u64
     ])
 }
 
-// The place of the first entry with this type and address. By index: of parts cut by the library a closure would have to show that
-// each has seven octets.
+// The place of the first entry with this type and address. By index: of parts cut by the library a closure would have to show
+// that each has seven octets.
 pub fn place_of(octets: &[u8], width: usize, n: usize, identity: [u8; 7]) -> Option<usize>
     requires { (7 ≤ width) × (n * width ≤ length octets.now) }
     ensures found { result ≡ position (has_identity identity) (chunks width n octets.now) }

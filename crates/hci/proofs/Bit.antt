@@ -34,7 +34,8 @@ power_other j k n = go (dec_lt j k)
     go (no h) =
         let m : ℕ = j - k - 1 in
         let e : j ≡ suc m + k = omega arith in
-        let d : 2 ^ j / 2 ^ k ≡ 2 ^ suc m = ap (λ (i : ℕ). 2 ^ i / 2 ^ k) e ∙ rw (pow-add 2 (suc m) k) (mul-div_cancel (2 ^ suc m) (pow_pos k)) in
+        let d : 2 ^ j / 2 ^ k ≡ 2 ^ suc m =
+        ap (λ (i : ℕ). 2 ^ i / 2 ^ k) e ∙ rw (pow-add 2 (suc m) k) (mul-div_cancel (2 ^ suc m) (pow_pos k)) in
         omega (arith, d, two-pow-succ m)
 
 -- a map with bit b set has bit b, and its other bits as they were
@@ -63,4 +64,6 @@ bit_set map b i h small = cases (eqb i b) here elsewhere
             omega (arith, there q, o)
 
         other : eqb (i / 8) (b / 8) ≡ false → map_bit (with_bit map b) i ≡ map_bit map i
-        other f = rw (get_or-set_other map (b / 8) (i / 8) (bit_or (octet map (b / 8)) (2 ^ (b % 8))) 0 (eqb-false (i / 8) (b / 8) f))
+        other f =
+            rw
+            (get_or-set_other map (b / 8) (i / 8) (bit_or (octet map (b / 8)) (2 ^ (b % 8))) 0 (eqb-false (i / 8) (b / 8) f))

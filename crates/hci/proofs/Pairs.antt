@@ -16,7 +16,8 @@ unfolding pairs
 pairs_suc [] cs j h k = absurd (not-suc-le-zero h)
 pairs_suc (x ∷ hs) [] j h k = absurd (not-suc-le-zero k)
 pairs_suc (x ∷ hs) (y ∷ cs) zero h k = refl
-pairs_suc (x ∷ hs) (y ∷ cs) (suc j) h k = ap (λ (l : List ℕ). le 2 x ++ le 2 y ++ l) (pairs_suc hs cs j (le_of_suc-le-suc h) (le_of_suc-le-suc k))
+pairs_suc (x ∷ hs) (y ∷ cs) (suc j) h k =
+    ap (λ (l : List ℕ). le 2 x ++ le 2 y ++ l) (pairs_suc hs cs j (le_of_suc-le-suc h) (le_of_suc-le-suc k))
 
 -- as many as the shorter list has are all
 pub pairs_all : (hs cs : List ℕ) (k : ℕ) → k ≡ min (length hs) (length cs) → pairs (take k hs) (take k cs) ≡ pairs hs cs
@@ -33,4 +34,5 @@ pub length_pairs : (hs cs : List ℕ) → length (pairs hs cs) ≡ 4 * min (leng
 unfolding pairs
 length_pairs [] cs = omega arith
 length_pairs (x ∷ hs) [] = omega arith
-length_pairs (x ∷ hs) (y ∷ cs) = let e : length (pairs hs cs) ≡ 4 * min (length hs) (length cs) = length_pairs hs cs in omega arith
+length_pairs (x ∷ hs) (y ∷ cs) =
+    let e : length (pairs hs cs) ≡ 4 * min (length hs) (length cs) = length_pairs hs cs in omega arith

@@ -34,7 +34,8 @@ acl_packet handle boundary load fits =
     rw (ne_eqb n 0 (λ z. omega arith), le-leb 5 n (omega arith), w) (ap (λ (m : ℕ). Ok (Some m)) e)
 
 -- what a writer of a packet left in the buffer: the packet at the front, of as many octets as it answered
-module _ {n most : ℕ} {packet out : List ℕ} {r : Result ℕ WriteError} {after : List ℕ} (w : Wrote n most packet out r after) (accepted : number r ≡ 0) where
+module _ {n most : ℕ} {packet out : List ℕ} {r : Result ℕ WriteError} {after : List ℕ} (w : Wrote n most packet out r after)
+    (accepted : number r ≡ 0) where
   none_refused : refusal n most packet out ≡ 0
   none_refused = sym w.numbered ∙ accepted
 

@@ -18,7 +18,10 @@ number_behind (suc (suc w)) x p i = ap (λ (n : ℕ). octet p i + 256 * n) (numb
 -- octets in front
 pub number_after : (w : ℕ) (p q : List ℕ) (i : ℕ) → number_at w (p ++ q) (length p + i) ≡ number_at w q i
 number_after w [] q i = ap (number_at w q) (zero-add i)
-number_after w (x ∷ p) q i = ap (number_at w (x ∷ p ++ q)) (suc-add (length p) i) ∙ number_behind w x (p ++ q) (length p + i) ∙ number_after w p q i
+number_after w (x ∷ p) q i =
+    ap (number_at w (x ∷ p ++ q)) (suc-add (length p) i)
+    ∙ number_behind w x (p ++ q) (length p + i)
+    ∙ number_after w p q i
 
 -- octets behind
 octet_front : (p q : List ℕ) (i : ℕ) → i < length p → octet (p ++ q) i ≡ octet p i
@@ -29,7 +32,8 @@ octet_front (x ∷ p) q (suc i) h = octet_front p q i (omega arith)
 pub number_front : (w : ℕ) (p q : List ℕ) (i : ℕ) → i + w ≤ length p → number_at w (p ++ q) i ≡ number_at w p i
 number_front zero p q i h = refl
 number_front (suc zero) p q i h = octet_front p q i (omega arith)
-number_front (suc (suc w)) p q i h = ap₂ (λ (a b : ℕ). a + 256 * b) (octet_front p q i (omega arith)) (number_front (suc w) p q (suc i) (omega arith))
+number_front (suc (suc w)) p q i h =
+    ap₂ (λ (a b : ℕ). a + 256 * b) (octet_front p q i (omega arith)) (number_front (suc w) p q (suc i) (omega arith))
 
 -- what is written is read back
 pub number_le : (w n : ℕ) (q : List ℕ) → n < 256 ^ w → number_at w (le w n ++ q) 0 ≡ n
@@ -37,7 +41,8 @@ number_le zero n q h = omega arith
 number_le (suc zero) n q h = omega arith
 number_le (suc (suc w)) n q h =
     let e : number_at (suc w) (n % 256 ∷ (le (suc w) (n / 256) ++ q)) 1 ≡ n / 256 =
-    number_behind (suc w) (n % 256) (le (suc w) (n / 256) ++ q) 0 ∙ number_le (suc w) (n / 256) q (omega (arith, pow-succ' 256 (suc w), h)) in
+    number_behind (suc w) (n % 256) (le (suc w) (n / 256) ++ q) 0
+    ∙ number_le (suc w) (n / 256) q (omega (arith, pow-succ' 256 (suc w), h)) in
     omega (arith, e)
 
 -- w octets, each below 256, are the octets of the number that they are
@@ -51,4 +56,5 @@ le_number (suc (suc w)) p i h f =
     let n : ℕ = number_at (suc w) p (suc i) in
     let e : (octet p i + 256 * n) % 256 ≡ octet p i = omega (arith, f i) in
     let d : (octet p i + 256 * n) / 256 ≡ n = omega (arith, f i) in
-    rw (drop-cons p i 0 (omega arith)) (ap₂ (λ (a : ℕ) (b : List ℕ). a ∷ b) e (ap (le (suc w)) d ∙ le_number (suc w) p (suc i) (omega arith) f))
+    rw (drop-cons p i 0 (omega arith))
+    (ap₂ (λ (a : ℕ) (b : List ℕ). a ∷ b) e (ap (le (suc w)) d ∙ le_number (suc w) p (suc i) (omega arith) f))

@@ -43,7 +43,8 @@ splice_splice xs at ys b zs h e =
     ∙ ap (drop (length zs)) (drop_at p (drop (at + length ys) xs) b n)
     ∙ drop-drop (length zs) (at + length ys) xs
     ∙ ap (λ (k : ℕ). drop k xs) m in
-    ap (λ (l : List ℕ). l ++ zs ++ drop (b + length zs) (p ++ drop (at + length ys) xs)) (take_at p (drop (at + length ys) xs) b n)
+    ap (λ (l : List ℕ). l ++ zs ++ drop (b + length zs) (p ++ drop (at + length ys) xs))
+    (take_at p (drop (at + length ys) xs) b n)
     ∙ ap (λ (l : List ℕ). p ++ zs ++ l) d
     ∙ ap (λ (l : List ℕ). l ++ drop (at + length (ys ++ zs)) xs) (append_assoc (take at xs) ys zs)
 

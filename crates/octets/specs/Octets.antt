@@ -1,6 +1,7 @@
 -- Buffers of octets as lists of numbers: octets written over a part of a buffer, and little-endian numbers of any
 -- width. For every crate that reads or writes packets.
-use Rattle.std.specs.Prelude.{◌≡◌, ℕ, zero, suc, ◌+◌, ◌*◌, ◌/◌, ◌%◌, ◌≤◌, Bool, not, List, [], ◌∷◌, ◌++◌, eqb, length, take, drop, get_or}
+use Rattle.std.specs.Prelude.{◌≡◌, ℕ, zero, suc, ◌+◌, ◌*◌, ◌/◌, ◌%◌, ◌≤◌, Bool, not, List, [], ◌∷◌, ◌++◌, eqb, length, take}
+use Rattle.std.specs.Prelude.{drop, get_or}
 
 -- the octet at index i, 0 past the end
 abbrev pub octet : List ℕ → ℕ → ℕ

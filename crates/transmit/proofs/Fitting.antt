@@ -48,12 +48,14 @@ pub fitting_test : (places size : ℕ) (w : Waiting) → Fitting places size w �
 fitting_test places size w f = simp (lt-ltb _ _ f.place, le-leb _ _ f.least, le-leb _ _ f.most)
 
 -- their places are among the 32, and they lie in the pool
-pub all_below : (places size : ℕ) (l : List Waiting) → places ≤ 32 → all (fits_in places size) l ≡ true → all (place_below 32) l ≡ true
+pub all_below : (places size : ℕ) (l : List Waiting) → places ≤ 32 → all (fits_in places size) l ≡ true
+    → all (place_below 32) l ≡ true
 all_below places size l h =
     all_implies (fits_in places size) (place_below 32) l
     (λ w e. lt-ltb w.place 32 (let f = fitting places size w e in omega arith))
 
-pub all_lie : (places size : ℕ) (pool : List ℕ) (l : List Waiting) → places * size ≤ length pool → all (fits_in places size) l ≡ true
+pub all_lie : (places size : ℕ) (pool : List ℕ) (l : List Waiting) → places * size ≤ length pool
+    → all (fits_in places size) l ≡ true
     → all (lies_in size pool) l ≡ true
 all_lie places size pool l h =
     all_implies (fits_in places size) (lies_in size pool) l

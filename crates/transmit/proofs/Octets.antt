@@ -20,7 +20,8 @@ module _ (size : ℕ) (pool : List ℕ) where
   unfolding end_to_end flatten
   end_to_end_append [] m = refl
   end_to_end_append (w ∷ l) m =
-      rw (end_to_end_append l m) (sym (append_assoc (read_at size pool w.place w.len) (end_to_end size pool l) (end_to_end size pool m)))
+      rw (end_to_end_append l m)
+      (sym (append_assoc (read_at size pool w.place w.len) (end_to_end size pool l) (end_to_end size pool m)))
 
   -- one packet more
   pub end_to_end_more : (xs : List Waiting) (i : ℕ) (d : Waiting) → i < length xs
@@ -33,7 +34,8 @@ module _ (size : ℕ) (pool : List ℕ) where
   -- the first packets' octets are the first octets
   pub end_to_end_le : (l : List Waiting) (i : ℕ) → length (end_to_end size pool (take i l)) ≤ length (end_to_end size pool l)
   end_to_end_le l i =
-      let e : length (end_to_end size pool l) ≡ length (end_to_end size pool (take i l)) + length (end_to_end size pool (drop i l)) =
+      let e : length (end_to_end size pool l)
+      ≡ length (end_to_end size pool (take i l)) + length (end_to_end size pool (drop i l)) =
       ap (λ (m : List Waiting). length (end_to_end size pool m)) (sym (take-append-drop i l))
       ∙ ap length (end_to_end_append (take i l) (drop i l))
       ∙ length-append (end_to_end size pool (take i l)) (end_to_end size pool (drop i l)) in
@@ -70,11 +72,13 @@ module _ {packets : List Waiting} {size : ℕ} {pool out₀ out : List ℕ} {at 
     lies = all_at (lies_in size pool) packets i d c.can.within more
 
     -- the next packet's octets, after those of the first i
-    next : end_to_end size pool (take (i + 1) packets) ≡ end_to_end size pool (take i packets) ++ read_at size pool (get_or packets i d).place (get_or packets i d).len
+    next : end_to_end size pool (take (i + 1) packets)
+        ≡ end_to_end size pool (take i packets) ++ read_at size pool (get_or packets i d).place (get_or packets i d).len
     next = end_to_end_more size pool packets i d more
 
     -- the next packet lies in the pool, and the buffer has room for it
-    pub copy_fits : ((get_or packets i d).place * size + (get_or packets i d).len ≤ length pool) × (at + (get_or packets i d).len ≤ length out)
+    pub copy_fits : ((get_or packets i d).place * size + (get_or packets i d).len ≤ length pool)
+        × (at + (get_or packets i d).len ≤ length out)
     copy_fits =
         let w = get_or packets i d in
         let e : length (end_to_end size pool (take (i + 1) packets)) ≡ length (end_to_end size pool (take i packets)) + w.len =
@@ -84,7 +88,8 @@ module _ {packets : List Waiting} {size : ℕ} {pool out₀ out : List ℕ} {at 
         let le = end_to_end_le size pool packets (i + 1) in
         (leb-true _ _ lies, omega (arith, c.can.room, c.copied.next, put_long c.copied))
 
-    pub copy_more : {r : ℕ} {after : List ℕ} → Put out at (read_at size pool (get_or packets i d).place (get_or packets i d).len) r after
+    pub copy_more : {r : ℕ} {after : List ℕ}
+        → Put out at (read_at size pool (get_or packets i d).place (get_or packets i d).len) r after
         → Copying packets size pool out₀ after r (i + 1)
     copy_more p = record { can = c.can; copied = rw next (put_then c.copied p) }
 

@@ -18,7 +18,8 @@ use Rattle.lists.proofs.Taking.{taken_keep, keep_leaving, keep_leaving_other, ta
 use Rattle.links.specs.declared.Connection.{Connection}
 use Rattle.links.specs.declared.Waiting.{Waiting}
 use Rattle.links.specs.declared.Links.{Links}
-use Rattle.links.specs.Links.{Packet, Model, opened, has, view, waiting_of, waits_for, packet_for, in_use, enqueued, taken_from, after_taking}
+use Rattle.links.specs.Links.{Packet, Model, opened, has, view, waiting_of, waits_for, packet_for, in_use, enqueued, taken_from}
+use Rattle.links.specs.Links.{after_taking}
 use Rattle.links.specs.Holding.{LinksHold, fits_in, waits_in_link}
 use Rattle.transmit.specs.Transmit.{taken_octets}
 use Rattle.transmit.specs.Steps.{end_to_end}
@@ -36,14 +37,19 @@ module _ (h : ℕ) (octets : List ℕ) (m : Model) where
   in_use_queued = simp length-append (omega arith)
 
   -- the packet is the last of its link, and the packets of other links are the same
-  pub own_queued : keep (packet_for h) (enqueued h octets m).queue ≡ keep (packet_for h) m.queue ++ (record { handle = h; octets = octets } ∷ [])
+  pub own_queued : keep (packet_for h) (enqueued h octets m).queue
+      ≡ keep (packet_for h) m.queue ++ (record { handle = h; octets = octets } ∷ [])
   unfolding enqueued keep
   own_queued = rw (keep_append (packet_for h) m.queue (record { handle = h; octets = octets } ∷ []), eq-eqb h h refl)
 
   pub others_queued : (g : ℕ) → g ≢ h → keep (packet_for g) (enqueued h octets m).queue ≡ keep (packet_for g) m.queue
   unfolding enqueued keep
   others_queued g ne =
-      rw (keep_append (packet_for g) m.queue (record { handle = h; octets = octets } ∷ []), ne_eqb h g (λ e. ne (sym e)), append-nil)
+      rw (
+        keep_append (packet_for g) m.queue (record { handle = h; octets = octets } ∷ []),
+        ne_eqb h g (λ e. ne (sym e)),
+        append-nil,
+      )
 
 module _ (h most : ℕ) (m : Model) where
   -- what was waiting is in flight: as many buffers are in use
@@ -111,7 +117,8 @@ module _ (s : Links) (size places h most : ℕ) (pool : List ℕ) (held : LinksH
   taken_octets_most =
       let l = taken (waits_for h) most (waiting_of s) in
       let fit : all (fits_in places size) l ≡ true =
-      all_fewer _ (take_fewer most (keep (waits_for h) (waiting_of s))) (all_fewer _ (keep_fewer (waits_for h) (waiting_of s)) held.fit) in
+      all_fewer _ (take_fewer most (keep (waits_for h) (waiting_of s)))
+      (all_fewer _ (keep_fewer (waits_for h) (waiting_of s)) held.fit) in
       rw (octets_view s size h most pool, taken_view s size h most pool, length-map) (length_octets size places pool l fit)
 
   -- nothing is taken for a handle that is no link's

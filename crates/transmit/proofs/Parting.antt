@@ -22,7 +22,8 @@ lengths_append [] m = sym (zero-add _)
 lengths_append (w ∷ l) m = rw (lengths_append l m) (sym (add_assoc w.len (lengths l) (lengths m)))
 
 -- the first i are parted
-pub record Parting (waiting : List Waiting) (handle most : ℕ) (first : List Waiting) (len : ℕ) (rest : List Waiting) (i : ℕ) : Type 0 where
+pub record Parting (waiting : List Waiting) (handle most : ℕ) (first : List Waiting) (len : ℕ) (rest : List Waiting)
+    (i : ℕ) : Type 0 where
   pub parts : Parts (take i waiting) handle most first len rest
   pub counted : length first + length rest ≡ i
   pub bounded : len ≤ 65535 * i

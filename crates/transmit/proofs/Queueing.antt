@@ -50,15 +50,18 @@ module _ {s : Links} {size places handle n place : ℕ} {pool packet : List ℕ}
         omega (arith, can.fits.room)
 
     -- the packets that waited before are read as before
-    others : map (packet_of size (splice pool (place * size) (take n packet))) (waiting_of s) ≡ map (packet_of size pool) (waiting_of s)
+    others : map (packet_of size (splice pool (place * size) (take n packet))) (waiting_of s)
+        ≡ map (packet_of size pool) (waiting_of s)
     others =
-        map_agree (packet_of size (splice pool (place * size) (take n packet))) (packet_of size pool) (fits_in places size) (keyed place_of place)
+        map_agree (packet_of size (splice pool (place * size) (take n packet))) (packet_of size pool) (fits_in places size)
+        (keyed place_of place)
         (waiting_of s)
         (λ w fits other.
         let f = fitting places size w fits in
         let b = place_room w.place places size w.len f.place f.most in
         ap (λ (o : List ℕ). record { handle = w.handle; octets = o })
-        (read_others size pool packet place n can.given queue_room w.place w.len (eqb-false _ _ other) can.most f.most (omega (arith, can.fits.room))))
+        (read_others size pool packet place n can.given queue_room w.place w.len (eqb-false _ _ other) can.most f.most
+        (omega (arith, can.fits.room))))
         can.fits.held.fit
         found.free
 
@@ -66,7 +69,8 @@ module _ {s : Links} {size places handle n place : ℕ} {pool packet : List ℕ}
       -- the packet waits last
       last : waiting_of (with_queued (pushed s (record { handle = handle; len = n; place = place })) s)
           ≡ waiting_of s ++ (record { handle = handle; len = n; place = place } ∷ [])
-      last = take_push s.waiting s.waiting_count (record { handle = handle; len = n; place = place }) (omega (arith, can.free, can.fits.most))
+      last = take_push s.waiting s.waiting_count (record { handle = handle; len = n; place = place })
+          (omega (arith, can.free, can.fits.most))
 
       pub queued_view : view (with_queued (pushed s (record { handle = handle; len = n; place = place })) s) size
           (splice pool (place * size) (take n packet))

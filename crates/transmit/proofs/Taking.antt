@@ -24,13 +24,17 @@ use Rattle.transmit.proofs.Octets.{length_end_to_end}
 
 -- the packets to be taken, seen in the queue of the links
 module _ (s : Links) (size handle most : ℕ) (pool : List ℕ) where
-  pub taken_view : taken_from handle most (view s size pool) ≡ map (packet_of size pool) (taken (waits_for handle) most (waiting_of s))
+  pub taken_view : taken_from handle most (view s size pool)
+      ≡ map (packet_of size pool) (taken (waits_for handle) most (waiting_of s))
   unfolding taken_from
   taken_view = taken_map (packet_of size pool) (waits_for handle) (packet_for handle) (λ w. refl) most (waiting_of s)
 
-  pub octets_view : taken_octets handle most (view s size pool) ≡ end_to_end size pool (taken (waits_for handle) most (waiting_of s))
+  pub octets_view : taken_octets handle most (view s size pool)
+      ≡ end_to_end size pool (taken (waits_for handle) most (waiting_of s))
   unfolding end_to_end
-  octets_view = rw taken_view (ap flatten (map-map (λ (p : Packet). p.octets) (packet_of size pool) (taken (waits_for handle) most (waiting_of s))))
+  octets_view =
+      rw taken_view
+      (ap flatten (map-map (λ (p : Packet). p.octets) (packet_of size pool) (taken (waits_for handle) most (waiting_of s))))
 
 module _ {s : Links} {size places handle most : ℕ} {pool : List ℕ} (fits : PoolFits s size places pool)
     {first : List Waiting} {len : ℕ} {rest : List Waiting} (parts : Parts (waiting_of s) handle most first len rest)

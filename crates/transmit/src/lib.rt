@@ -1,6 +1,6 @@
 // Packets in the pool: queueing one for a link, and taking a link's packets for the air. The pool is lent by the caller:
-// `places` places of `size` octets each. For data packets and `take_transmit` of the controller. Both give the waiting packets and
-// no more of the links, which the caller puts together: were all of them to go through, they would be copied more often
+// `places` places of `size` octets each. For data packets and `take_transmit` of the controller. Both give the waiting packets
+// and no more of the links, which the caller puts together: were all of them to go through, they would be copied more often
 // (docs/SPEED.md). Contracts cite `specs/Transmit.antt`, those of the steps `specs/Steps.antt`.
 #![tactic(auto)]
 
@@ -64,6 +64,7 @@ pub fn enqueue(
     let count = links.waiting_count;
     let place = free_place(&waiting[..count]);
     octets::put(pool, place * size, &packet[..n]);
+    // By `as`: a packet has at most 1,024 octets and a place is below 32, and `try_from` would want a branch that no run takes.
     waiting[count] = Waiting {
         handle,
         len: n as u16,

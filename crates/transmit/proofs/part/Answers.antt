@@ -1,7 +1,8 @@
 -- `transmit::part` meets its contract.
 use Rattle.std.proofs.Common.{arith}
 use Rattle.transmit.proofs.Parting.{part_none, part_take, part_keep}
-use Rattle.transmit.proofs.part.Goals.{then-w-handle+then-from-max, else-w-handle, else-w-handle-via-then-w-handle+else-from-max, else-w-handle-via-else-w-handle}
+use Rattle.transmit.proofs.part.Goals.{then-w-handle+then-from-max, else-w-handle}
+use Rattle.transmit.proofs.part.Goals.{else-w-handle-via-then-w-handle+else-from-max, else-w-handle-via-else-w-handle}
 use Rattle.transmit.proofs.part.Goals as goal
 
 pub loop-w-init : goal.loop-w-init

@@ -2,7 +2,8 @@
 use Rattle.std.proofs.Common.{arith, sym, ◌∙◌}
 use Rattle.filters.proofs.Flat.{within}
 use Rattle.filters.proofs.Differing.{differ_begin, unmet_none, differ_turn, differ_stop, differ_end}
-use Rattle.filters.proofs.differ.entries_differ.Goals.{else-met-mark-via-then-met-mark+else-stands_before, else-met-mark-via-else-met-mark}
+use Rattle.filters.proofs.differ.entries_differ.Goals.{else-met-mark-via-then-met-mark+else-stands_before}
+use Rattle.filters.proofs.differ.entries_differ.Goals.{else-met-mark-via-else-met-mark}
 use Rattle.filters.proofs.differ.entries_differ.Goals as goal
 
 pub loop-i-init : goal.loop-i-init

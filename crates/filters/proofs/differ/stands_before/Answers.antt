@@ -4,7 +4,8 @@ use borrow.Author.Tests.{lt-ltb, le-ltb}
 use Rattle.filters.specs.Keys.{key_of}
 use Rattle.filters.proofs.Flat.{within, entry_found}
 use Rattle.filters.proofs.Identities.{seek_here, seek_on, seek_end, same_low, octets_drop}
-use Rattle.filters.proofs.differ.stands_before.Goals.{else-low_at-low-via-then-low_at-low+else-key_at-key, else-low_at-low-via-else-low_at-low}
+use Rattle.filters.proofs.differ.stands_before.Goals.{else-low_at-low-via-then-low_at-low+else-key_at-key}
+use Rattle.filters.proofs.differ.stands_before.Goals.{else-low_at-low-via-else-low_at-low}
 use Rattle.filters.proofs.differ.stands_before.Goals as goal
 
 pub overflow_mul-place : goal.overflow_mul-place
