@@ -1,5 +1,5 @@
--- The profile of document 01, "Bench lines", without its rows. For `records`, which adds the rows of the bench, and for the example
--- of `agreement`, which adds those of three commands.
+-- The profile of document 01, "Bench lines", without its rows. For `records`, which adds the rows of the bench, and for the
+-- example of `agreement`, which adds those of three commands.
 use Rattle.std.specs.Prelude.{pos, replicate}
 use Rattle.profile.specs.declared.ControllerRow.{ControllerRow}
 

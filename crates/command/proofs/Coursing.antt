@@ -41,7 +41,8 @@ module _ (op now n : ℕ) where
     unfolding by_row listed_row modelled
     bad_parameters missized g m long same = rw (told m same, long, missized)
 
-    pub carried_out : (part : Part) → find op rows ≡ find op (rows_of part) → sized op rows n ≡ true → Courses 0 op now n (Ok part)
+    pub carried_out : (part : Part) → find op rows ≡ find op (rows_of part) → sized op rows n ≡ true
+        → Courses 0 op now n (Ok part)
     unfolding by_row listed_row modelled
     carried_out part row rightly = (row, rightly, λ g m long same. rw (told m same, long, rightly))
 

@@ -34,7 +34,8 @@ use Rattle.dispatch.specs.Parts.{rows_of}
 use Rattle.dispatch.proofs.Halves.{row_fits, row_gives}
 use Rattle.command.specs.declared.Noted.{Noted}
 use Rattle.command.specs.declared.Told.{Told}
-use Rattle.command.specs.Calling.{family_in, begun_from, remembered_in, carried_by, ShapedProfile, CanCarry, CanFinish, Finished, FinishedFrom, Gave, told_of}
+use Rattle.command.specs.Calling.{family_in, begun_from, remembered_in, carried_by, told_of}
+use Rattle.command.specs.Calling.{ShapedProfile, CanCarry, CanFinish, Finished, FinishedFrom, Gave}
 
 -- ---- the family
 
@@ -52,7 +53,8 @@ family_most op =
 pub family_view : (op : ℕ) (m : Model) → with_settings (family_in op m.settings) m ≡ with_family op m
 family_view op m = cases (eqb (family_of op) 0) (λ z. rw z) (λ z. rw z)
 
-pub family_holds : (op : ℕ) {s : Controller} {k : ControllerRow} → StateHolds s k → StateHolds (put_settings (family_in op s.settings) s) k
+pub family_holds : (op : ℕ) {s : Controller} {k : ControllerRow} → StateHolds s k
+    → StateHolds (put_settings (family_in op s.settings) s) k
 family_holds op h =
     cases (eqb (family_of op) 0)
     (λ z. rw z h)
@@ -61,16 +63,22 @@ family_holds op h =
 -- ---- the state that a command begins with
 
 module _ (op : ℕ) (s : Controller) {u : Controller} (begun : u ≡ begun_from op s) where
-  begun_view : (size : ℕ) (pool : List ℕ) → view u size pool ≡ with_family op (with_counters (count_command s.counters) (view s size pool))
+  begun_view : (size : ℕ) (pool : List ℕ)
+      → view u size pool ≡ with_family op (with_counters (count_command s.counters) (view s size pool))
   begun_view size pool =
-      ap (λ (x : Controller). view x size pool) begun ∙ family_view op (with_counters (count_command s.counters) (view s size pool))
+      ap (λ (x : Controller). view x size pool) begun
+      ∙ family_view op (with_counters (count_command s.counters) (view s size pool))
 
   pub begun_ready : {k : ControllerRow} → Ready s k → Ready u k
-  begun_ready r = record { limits = r.limits; holds = rw begun (family_holds op (holds_counters r.holds (count_command s.counters))) }
+  begun_ready r = record {
+    limits = r.limits;
+    holds = rw begun (family_holds op (holds_counters r.holds (count_command s.counters)));
+  }
 
 -- ---- the end of a command
 
-recent_view : (form : Form) (op : ℕ) (octets : List ℕ) (x : Recent) (s : Controller) → answers_of x ≡ remembered_in form op octets (answers_of s.recent)
+recent_view : (form : Form) (op : ℕ) (octets : List ℕ) (x : Recent) (s : Controller)
+    → answers_of x ≡ remembered_in form op octets (answers_of s.recent)
     → (size : ℕ) (pool : List ℕ) → view (put_recent x s) size pool ≡ remembered form op octets (view s size pool)
 recent_view Complete op octets x s e size pool = ap (λ (l : List (List ℕ)). with_recent l (view s size pool)) e
 recent_view Status op octets x s e size pool = ap (λ (l : List (List ℕ)). with_recent l (view s size pool)) e
@@ -78,7 +86,8 @@ recent_view Silent op octets x s e size pool = ap (λ (l : List (List ℕ)). wit
 
 -- x are the last answers then
 finishes : {num op : ℕ} (a : AnswerModel) (s : Controller) (x : Recent) {out after : List ℕ} {n : ℕ}
-    → (answers_of x ≡ remembered_in a.form op a.octets (answers_of s.recent)) × (x.count ≤ 32) → Put out 0 (octets_of num op a) n after
+    → (answers_of x ≡ remembered_in a.form op a.octets (answers_of s.recent)) × (x.count ≤ 32)
+    → Put out 0 (octets_of num op a) n after
     → Finished num op a s out (told_of s (record { counters = s.counters; settings = s.settings; recent = x; written = n })) after
 finishes {op = op} a s x kept put = record {
   number = refl;
@@ -87,14 +96,18 @@ finishes {op = op} a s x kept put = record {
   held = λ k h. holds_recent h kept.1;
 }
 
-pub finishes_from : {num op : ℕ} (a : AnswerModel) (counters : Counters) (settings : Settings) (recent x : Recent) {out after : List ℕ} {n : ℕ}
-    → (answers_of x ≡ remembered_in a.form op a.octets (answers_of recent)) × (x.count ≤ 32) → Put out 0 (octets_of num op a) n after
-    → FinishedFrom counters settings recent num op a out (record { counters = counters; settings = settings; recent = x; written = n }) after
+pub finishes_from : {num op : ℕ} (a : AnswerModel) (counters : Counters) (settings : Settings) (recent x : Recent)
+    {out after : List ℕ} {n : ℕ}
+    → (answers_of x ≡ remembered_in a.form op a.octets (answers_of recent)) × (x.count ≤ 32)
+    → Put out 0 (octets_of num op a) n after
+    → FinishedFrom counters settings recent num op a out
+    (record { counters = counters; settings = settings; recent = x; written = n }) after
 finishes_from a counters settings recent x kept put = λ s c t r. rw (sym c, sym t) (finishes a s x (rw (sym r) at kept) put)
 
 -- the outcome f, with v the state after it
 pub gave : {f : Model → Outcome} {k : ControllerRow} {op : ℕ} {s v : Controller} {a : AnswerModel} {out after : List ℕ} {r : Told}
-    → ((size : ℕ) (pool : List ℕ) → outcome a (view v size pool) ≡ f (with_counters (count_command s.counters) (view s size pool)))
+    → ((size : ℕ) (pool : List ℕ)
+    → outcome a (view v size pool) ≡ f (with_counters (count_command s.counters) (view s size pool)))
     → StateHolds v k → Finished k.num_command_packets op a v out r after → Gave f k op s out r after
 gave {k = k} {op = op} same held end = record {
   number = end.number;
@@ -110,7 +123,12 @@ told_in z n = record { number = 0; state = z; written = n.written }
 
 pub shaped_given : {k : ControllerRow} {address : List ℕ} {random : ℕ} {p : List ℕ} → ShapedProfile k → length address ≡ 6
     → Shaped (given k address random p)
-shaped_given shaped long = record { commands = shaped.commands; features = shaped.features; states = shaped.states; address = long }
+shaped_given shaped long = record {
+  commands = shaped.commands;
+  features = shaped.features;
+  states = shaped.states;
+  address = long;
+}
 
 module _ {k : ControllerRow} {op : ℕ} {s u : Controller} {part : Part} {p out : List ℕ} (can : CanCarry s k op part p out)
     (begun : u ≡ begun_from op s) where
@@ -126,21 +144,27 @@ module _ {k : ControllerRow} {op : ℕ} {s u : Controller} {part : Part} {p out 
 
     -- the answer is that of a row, so it fits
     pub can_finish : length address ≡ 6 → CanFinish (put u).recent a out
-    can_finish long = record {
-      few = gives.held.recent;
-      holds = gives.shaped;
-      modest = rw (ap (λ (o : Outcome). o.answer) (listed.viewed 0 [])) (rows_modest (given k address random p) (shaped_given can.shaped long) op (view u 0 []));
-      room = can.room;
-    }
+    can_finish long =
+        let modest = rows_modest (given k address random p) (shaped_given can.shaped long) op (view u 0 []) in
+        record {
+          few = gives.held.recent;
+          holds = gives.shaped;
+          modest = rw (ap (λ (o : Outcome). o.answer) (listed.viewed 0 [])) modest;
+          room = can.room;
+        }
 
     -- all that the command began with is noted, so the part may as well be put into the state before it
-    pub carried : (n : Noted) → noted_in n.counters n.settings n.recent (put (begun_from op s)) ≡ noted_in n.counters n.settings n.recent (put s)
+    pub carried : (n : Noted)
+        → noted_in n.counters n.settings n.recent (put (begun_from op s)) ≡ noted_in n.counters n.settings n.recent (put s)
         → {after : List ℕ}
         → FinishedFrom (put u).counters (put u).settings (put u).recent k.num_command_packets op (answer_of a) out n after
         → Gave (carried_by (given k address random p) op) k op s out (told_of (put s) n) after
     carried n same end =
         rw (ap (λ (z : Controller). told_of (put z) n) begun ∙ ap (λ (z : Controller). told_in z n) same)
-        at (gave {f = carried_by (given k address random p) op} {s = s} (λ size pool. listed.viewed size pool ∙ ap ((find op rows).does (given k address random p)) (begun_view op s begun size pool)) listed.held (end (put u) refl refl refl))
+        at (gave {f = carried_by (given k address random p) op} {s = s}
+        (λ size pool.
+        listed.viewed size pool ∙ ap ((find op rows).does (given k address random p)) (begun_view op s begun size pool))
+        listed.held (end (put u) refl refl refl))
 
 -- a command that changes no part puts none
 abbrev pub no_part : Controller → Controller

@@ -1,5 +1,5 @@
--- A command that is answered without being carried out: its answer fits the buffer, and the state with the counters and the settings
--- after it is the definition's. For `answered`.
+-- A command that is answered without being carried out: its answer fits the buffer, and the state with the counters and the
+-- settings after it is the definition's. For `answered`.
 use mathlib.Core.Path.{◌≡◌, refl, ap, ◌∙◌}
 use Prim.Native.Nat.{ℕ}
 use native.Mathlib.Omega.{arith}
@@ -37,7 +37,8 @@ reason_modest OtherFamily k op = modest_cond (eqb op 0x2007) (completes _ (omega
 reason_modest Unmodeled k op = refused_modest op _
 reason_modest BadParameters k op = refused_modest op _
 
-pub answer_modest : {a : Answer} (reason : Reason) (k : ControllerRow) (op : ℕ) → Answers (answer_for reason k op) a → Modest (answer_of a)
+pub answer_modest : {a : Answer} (reason : Reason) (k : ControllerRow) (op : ℕ) → Answers (answer_for reason k op) a
+    → Modest (answer_of a)
 answer_modest reason k op answers = rw answers.same (reason_modest reason k op)
 
 -- the state after it
@@ -67,8 +68,9 @@ module _ (reason : Reason) (k : ControllerRow) (op : ℕ) (s : Controller) {coun
       → outcome (answer_of a) (view (put_settings settings (put_counters counters s)) size pool)
       ≡ answered_by reason k op (with_counters (count_command s.counters) (view s size pool))
   reason_outcome {a} answers size pool =
+      let after = put_settings (settings_for reason op s.settings) (put_counters (counters_for reason s.counters) s) in
       rw (counted, set)
-      (ap (λ (x : AnswerModel). outcome x (view (put_settings (settings_for reason op s.settings) (put_counters (counters_for reason s.counters) s)) size pool)) answers.same
+      (ap (λ (x : AnswerModel). outcome x (view after size pool)) answers.same
       ∙ ap (λ (m : Model). outcome (answer_for reason k op) m) (state_view reason op s size pool))
 
   pub reason_holds : StateHolds s k → StateHolds (put_settings settings (put_counters counters s)) k

@@ -15,7 +15,8 @@ acknowledged_in Complete other op octets l = refl
 acknowledged_in Status other op octets l = refl
 acknowledged_in Silent other op octets l = absurd (other refl)
 
-pub status_remembered : (form : Form) → (form ≡ Silent → ⊥) → (op code : ℕ) (octets : List ℕ) (l : List (List ℕ)) {after : List (List ℕ)}
+pub status_remembered : (form : Form) → (form ≡ Silent → ⊥) → (op code : ℕ) (octets : List ℕ) (l : List (List ℕ))
+    {after : List (List ℕ)}
     → after ≡ remember (le 2 op ++ (code ∷ [])) l → code ≡ get_or octets 0 0 → after ≡ remembered_in form op octets l
 status_remembered form other op code octets l e h =
     e ∙ ap (λ (x : ℕ). remember (le 2 op ++ (x ∷ [])) l) h ∙ acknowledged_in form other op octets l

@@ -104,7 +104,8 @@ Courses answer op now n (Err reason) =
 Courses answer op now n (Ok part) =
     (find op rows ≡ find op (rows_of part))
     × (sized op rows n ≡ true)
-    × ((g : Given) (m : Model) → length g.params ≡ n → m.settings.advertising_family ≡ now → by_row g answer op m ≡ carried_by g op m)
+    × ((g : Given) (m : Model) → length g.params ≡ n → m.settings.advertising_family ≡ now
+    → by_row g answer op m ≡ carried_by g op m)
 
 -- ---- what the functions count on and give
 
@@ -147,13 +148,16 @@ pub record Finished (num op : ℕ) (a : AnswerModel) (s : Controller) (out : Lis
 -- the same of any state with these counters, settings and last answers, where n is noted
 abbrev pub FinishedFrom : Counters → Settings → Recent → ℕ → ℕ → AnswerModel → List ℕ → Noted → List ℕ → Type 0
 FinishedFrom counters settings recent num op a out n after =
-    (s : Controller) → s.counters ≡ counters → s.settings ≡ settings → s.recent ≡ recent → Finished num op a s out (told_of s n) after
+    (s : Controller) → s.counters ≡ counters → s.settings ≡ settings → s.recent ≡ recent
+    → Finished num op a s out (told_of s n) after
 
 -- the outcome f of a command, from the state with the command counted: the answer is remembered, and written
-pub record Gave (f : Model → Outcome) (k : ControllerRow) (op : ℕ) (s : Controller) (out : List ℕ) (r : Told) (after : List ℕ) : Type 0 where
+pub record Gave (f : Model → Outcome) (k : ControllerRow) (op : ℕ) (s : Controller) (out : List ℕ) (r : Told)
+    (after : List ℕ) : Type 0 where
   pub number : r.number ≡ 0
   pub viewed : (size : ℕ) (pool : List ℕ)
       → view r.state size pool ≡ (after_answer op (f (with_counters (count_command s.counters) (view s size pool)))).state
   pub written : (size : ℕ) (pool : List ℕ)
-      → Put out 0 (octets_of k.num_command_packets op (f (with_counters (count_command s.counters) (view s size pool))).answer) r.written after
+      → Put out 0 (octets_of k.num_command_packets op (f (with_counters (count_command s.counters) (view s size pool))).answer)
+      r.written after
   pub held : StateHolds r.state k

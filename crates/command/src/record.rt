@@ -1,5 +1,5 @@
-// What is counted and remembered of every command. Inline in each function that carries commands out: out of line the compiler would
-// hand it copies of the state (docs/SPEED.md).
+// What is counted and remembered of every command. Inline in each function that carries commands out: out of line the compiler
+// would hand it copies of the state (docs/SPEED.md).
 ghost use Rattle.std.specs.Prelude.{◌≡◌, ◌≤◌};
 ghost use Rattle.answers.specs.Answers.{answer_of};
 ghost use Rattle.state.specs.State.{answers_of};

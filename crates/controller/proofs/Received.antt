@@ -1,7 +1,7 @@
--- What `on_packet` promises, by what the packet asks for: what the functions that it calls count on where questions 1 to 5 have the
--- answer "yes", and the call's contract where one has "no" and where none has. For `packets`.
+-- What `on_packet` promises where questions 1 to 5 have the answer "yes": what the functions that it calls count on, and the
+-- call's contract by what the packet asks for. For `packets`.
 use Rattle.std.specs.Prelude.{Result, Ok, Err}
-use mathlib.Core.Path.{◌≡◌, refl, sym, ap, ◌∙◌}
+use mathlib.Core.Path.{◌≡◌, sym, ap, ◌∙◌}
 use Prim.Native.Nat.{ℕ, ◌*◌, ◌≤◌}
 use mathlib.Core.Logic.{inl, inr}
 use mathlib.Core.List.{List, [], ◌∷◌}
@@ -22,15 +22,16 @@ use Rattle.dispatch.specs.declared.Part.{Part}
 use Rattle.command.specs.declared.Told.{Told}
 use Rattle.command.specs.declared.course.Reason.{Reason}
 use Rattle.command.specs.Calling.{answered_by, carried_by, CanCarry, Gave}
-use Rattle.calls.specs.Calls.{on_packet, Held, held}
+use Rattle.calls.specs.Packets.{Profile}
+use Rattle.calls.specs.Calls.{Call, on_packet, Held, held}
 use Rattle.calls.specs.Gives.{Accepted, Gives, events, profile_of}
 use Rattle.receive.specs.declared.Delivered.{Delivered}
 use Rattle.receive.specs.Receiving.{IsCommand, parameters_of, Quiet, Delivers, put_delivered}
 use Rattle.receive.proofs.Carrying.{params_long, carries_none, carries_course}
 use Rattle.receive.proofs.Accepting.{accepted_command, accepted_data, accepted_nothing}
-use Rattle.controller.specs.declared.refusal.Refusal.{Refusal}
-use Rattle.controller.specs.Asked.{number_of, question, about_packet, CanReceive}
-use Rattle.controller.proofs.Asking.{some, first_yes}
+use Rattle.controller.specs.Answers.{told}
+use Rattle.controller.specs.Asked.{question, about_packet, CanReceive}
+use Rattle.controller.proofs.Asking.{first_yes}
 
 -- questions 1 to 5 have the answer "yes"
 pub can_receive : (k : ControllerRow) (opcodes answers bits : List ℕ) (s : Controller) (pool out : List ℕ)
@@ -55,54 +56,50 @@ can_receive k opcodes answers bits s pool out e =
     }
 
 -- the parameters of a command that was read whole
-parameters_whole : {opcodes answers p q : List ℕ} {family op : ℕ} {c : Result Part Reason} → IsCommand opcodes answers family p op c
-    → q ≡ parameters_of (parse_command p) p → q ≡ parameters p
+parameters_whole : {opcodes answers p q : List ℕ} {family op : ℕ} {c : Result Part Reason}
+    → IsCommand opcodes answers family p op c → q ≡ parameters_of (parse_command p) p → q ≡ parameters p
 parameters_whole c same = rw c.read at same
 
-module _ {k : ControllerRow} {opcodes answers bits address p : List ℕ} {random : ℕ} {s : Controller} {pool out : List ℕ} where
-  -- one has "no"
-  pub receives_not : {r : Told} (refusal : Refusal)
-      → number_of refusal ≡ about_packet k opcodes answers bits (state_holds s k) (length pool) (length out)
-      → (r.number ≡ number_of refusal) × (r.state ≡ s) × (r.written ≡ 0)
-      → Gives (profile_of k opcodes answers bits) (on_packet address random p) (held s pool) (held r.state pool) (events r.number r.written out out)
-  receives_not refusal e same = record {
-    number = same.0 ∙ e;
-    refused = λ h. record { same = ap (λ (x : Controller). held x pool) same.1; buffer = refl; nothing = (same.2, refl) };
-    accepted = λ z. absurd (some refusal (sym same.0 ∙ z));
-  }
+-- what a call gives that tells r, where the pool and the buffer are `left` and `after` then
+abbrev pub GivesTold : Profile → Call → Held → List ℕ → Told → List ℕ → List ℕ → Type 0
+GivesTold g c s out r left after = Gives g c s (held r.state left) (told r out after)
 
--- none has: what the packet asks for decides
-module _ {k : ControllerRow} {opcodes answers : List ℕ} (bits address : List ℕ) (random : ℕ) {p : List ℕ} {s : Controller} {pool out : List ℕ}
-    (asked : 0 ≡ about_packet k opcodes answers bits (state_holds s k) (length pool) (length out)) where
-  accepted : {t : Held} {told n : ℕ} {after : List ℕ} → told ≡ 0
+-- what the packet asks for decides
+module _ {k : ControllerRow} {opcodes answers : List ℕ} (bits address : List ℕ) (random : ℕ) {p : List ℕ} {s : Controller}
+    {pool out : List ℕ} (asked : 0 ≡ about_packet k opcodes answers bits (state_holds s k) (length pool) (length out)) where
+  accepted : {t : Held} {number n : ℕ} {after : List ℕ} → number ≡ 0
       → Accepted (profile_of k opcodes answers bits) (on_packet address random p) (held s pool) t (events 0 n out after)
-      → Gives (profile_of k opcodes answers bits) (on_packet address random p) (held s pool) t (events told n out after)
+      → Gives (profile_of k opcodes answers bits) (on_packet address random p) (held s pool) t (events number n out after)
   accepted zero given = rw zero (record { number = asked; refused = λ h. absurd (omega arith); accepted = λ e. given })
 
   pub gives_nothing : {r : Told} → Quiet p → (r.number ≡ 0) × (r.state ≡ s) × (r.written ≡ 0)
-      → Gives (profile_of k opcodes answers bits) (on_packet address random p) (held s pool) (held r.state pool) (events r.number r.written out out)
-  gives_nothing (inl other) same =
-      accepted same.0 (accepted_nothing other.0 other.1 (same.1, same.2) (can_receive k opcodes answers bits s pool out asked).store.ready.holds)
-  gives_nothing (inr (first, quiet)) same =
+      → GivesTold (profile_of k opcodes answers bits) (on_packet address random p) (held s pool) out r pool out
+  gives_nothing quiet same =
+      let together = (can_receive k opcodes answers bits s pool out asked).store.ready.holds in
       accepted same.0
-      (accepted_command first (carries_none (quiet (profile_of k opcodes answers bits) address random) (same.1, same.2) (can_receive k opcodes answers bits s pool out asked).store.ready.holds))
+      (elim quiet [
+        | inl other ↦ accepted_nothing other.0 other.1 (same.1, same.2) together
+        | inr short ↦
+            accepted_command short.0
+            (carries_none (short.1 (profile_of k opcodes answers bits) address random) (same.1, same.2) together)
+      ])
 
   pub gives_data : {d : Delivered} {r : Told} {left : List ℕ} → octet p 0 ≡ 2
       → Delivers k p (held s pool) (held (put_delivered d s) left)
       → (r.number ≡ 0) × (r.written ≡ 0) × (r.state ≡ put_delivered d s)
-      → Gives (profile_of k opcodes answers bits) (on_packet address random p) (held s pool) (held r.state left) (events r.number r.written out out)
-  gives_data first does told = rw told.2 (accepted told.0 (accepted_data first told.1 does))
+      → GivesTold (profile_of k opcodes answers bits) (on_packet address random p) (held s pool) out r left out
+  gives_data first does same = rw same.2 (accepted same.0 (accepted_data first same.1 does))
 
   module _ {op : ℕ} {r : Told} {after : List ℕ} where
     pub gives_answered : {reason : Reason} → IsCommand opcodes answers s.settings.advertising_family p op (Err reason)
         → Gave (answered_by reason k op) k op s out r after
-        → Gives (profile_of k opcodes answers bits) (on_packet address random p) (held s pool) (held r.state pool) (events r.number r.written out after)
+        → GivesTold (profile_of k opcodes answers bits) (on_packet address random p) (held s pool) out r pool after
     gives_answered {reason} c does =
         accepted does.number (accepted_command c.first (carries_course (λ h. answered_by reason h.profile op) c c.courses does))
 
     pub gives_carried : {part : Part} {q : List ℕ} → IsCommand opcodes answers s.settings.advertising_family p op (Ok part)
         → q ≡ parameters_of (parse_command p) p → Gave (carried_by (given k address random q) op) k op s out r after
-        → Gives (profile_of k opcodes answers bits) (on_packet address random p) (held s pool) (held r.state pool) (events r.number r.written out after)
+        → GivesTold (profile_of k opcodes answers bits) (on_packet address random p) (held s pool) out r pool after
     gives_carried c same does =
         accepted does.number
         (accepted_command c.first (carries_course (λ h. carried_by h op) c c.courses.2 (rw (parameters_whole c same) at does)))

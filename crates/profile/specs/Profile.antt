@@ -1,6 +1,7 @@
 -- The profile's limits (question 1), its rows (question 2), the answer of an opcode's first row, and the bit map of the
 -- rows. Document 01, "Profile, state and pool". For callers of the controller.
-use Rattle.std.specs.Prelude.{ℕ, ◌≤◌, ◌<◌, ◌≡◌, List, [], ◌∷◌, Option, Some, None, Bool, false, cond, not, ◌&&◌, ◌||◌, leb, ltb, eqb, length, get_or, replicate}
+use Rattle.std.specs.Prelude.{ℕ, ◌≤◌, ◌<◌, ◌≡◌, List, [], ◌∷◌, length, get_or, replicate, Option, Some, None}
+use Rattle.std.specs.Prelude.{Bool, false, cond, not, ◌&&◌, ◌||◌, leb, ltb, eqb}
 use Rattle.lists.specs.Lists.{first_at, all}
 use Rattle.hci.specs.Bits.{with_bit}
 use Rattle.profile.specs.declared.ControllerRow.{ControllerRow}
@@ -39,7 +40,7 @@ rows_fit opcodes answers bits =
     && all (λ a. leb a 2) answers))
 
 -- the same as facts: `rows_fit_lem` of proofs/Limits
-pub record Rows (opcodes answers bits : List ℕ) : Type 0 where
+pub record FittingRows (opcodes answers bits : List ℕ) : Type 0 where
   pub same_answers : length opcodes ≡ length answers
   pub same_bits : length opcodes ≡ length bits
   pub few : length opcodes ≤ 256

@@ -1,5 +1,5 @@
 // The rows of a profile: how it answers each opcode, and the opcode's bit in the map of supported commands. They are three slices
-// that the caller lends, and come with question 2 answered: nothing else can make one. For `receive` and the controller's calls.
+// that the caller lends; there are no rows of which question 2 has the answer "no". For `receive` and the controller's calls.
 ghost use Rattle.std.specs.Prelude.{◌≡◌, true, cond, leb, ltb};
 ghost use Rattle.lists.specs.Lists.{all};
 ghost use Rattle.hci.specs.Bits.{with_bit};
@@ -24,7 +24,8 @@ impl<'a> Rows<'a> {
     #[tactic(auto, unfolding(crate::specs::Profile::rows_fit))]
     pub fn of(opcodes: &'a [u16], answers: &'a [u8], bits: &'a [u16]) -> Option<Rows<'a>>
         ensures asked { is_some result ≡ rows_fit opcodes.now answers.now bits.now }
-        ensures same { IfSome result (λ rows. (rows.opcodes.now ≡ opcodes.now) × (rows.answers.now ≡ answers.now) × (rows.bits.now ≡ bits.now)) }
+        ensures same { IfSome result (λ rows.
+            (rows.opcodes.now ≡ opcodes.now) × (rows.answers.now ≡ answers.now) × (rows.bits.now ≡ bits.now)) }
     {
         let fit = opcodes.len() == answers.len()
             && opcodes.len() == bits.len()
@@ -41,6 +42,7 @@ impl<'a> Rows<'a> {
     }
 
     // How the first row of an opcode answers it; None where no row has it.
+    #[tactic(auto, using(crate::proofs::FirstRow::no_row, crate::proofs::FirstRow::first_row))]
     pub fn answer(&self, op: u16) -> Option<Answering>
         ensures { answer_number result ≡ row_answer self.now.opcodes.now self.now.answers.now op }
     {
@@ -69,6 +71,7 @@ impl<'a> Rows<'a> {
 
 // Whether each answer is at most 2. It is asked with each call, so the loop looks at all of them and takes the greatest:
 // compiled, it looks at sixteen at once, which a loop that returns at the first answer above 2 does not.
+#[tactic(auto, unfolding(lists::specs::Lists::all), using(lists::proofs::Prefix::all_next))]
 fn answers_fit(answers: &[u8]) -> bool
     ensures { result ≡ all (λ a. leb a 2) answers.now }
 {

@@ -38,7 +38,9 @@ module _ {g : Profile} {address : List ℕ} {random : ℕ} {p : List ℕ} {s t :
   pub carries_none : ((m : Model) → by_command (parse_command p) g address random p m ≡ reply [] m) → (t ≡ s) × (n ≡ 0)
       → StateHolds s g.controller → Carries g address random p s t out n out
   carries_none quiet same held = record {
-    viewed = λ size pool. ap (λ (x : Controller). view x size pool) same.0 ∙ sym (ap (λ (x : Reply). x.state) (quiet (view s size pool)));
+    viewed =
+        λ size pool.
+        ap (λ (x : Controller). view x size pool) same.0 ∙ sym (ap (λ (x : Reply). x.state) (quiet (view s size pool)));
     written = λ size pool. rw (quiet (view s size pool), same.1) (put_none (omega arith));
     together = rw same.0 held;
   }

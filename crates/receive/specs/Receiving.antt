@@ -1,5 +1,5 @@
--- What a packet asks for, what receiving it counts on and what it gives. `Rattle.calls.specs.Gives` says what `on_packet` gives. For
--- the controller's `on_packet`, which has asked the questions.
+-- What a packet asks for, what receiving it counts on and what it gives. `Rattle.calls.specs.Gives` says what `on_packet` gives.
+-- For the controller's `on_packet`, which has asked the questions.
 use Rattle.std.specs.Prelude.{◌≡◌, ℕ, ◌*◌, ◌≤◌, List, [], Result, Ok, Err, ◌⊎◌, length}
 use Rattle.octets.specs.Octets.{octet, Put}
 use Rattle.hci.specs.Read.{parse_command, parameters, parse_acl}
@@ -41,7 +41,9 @@ parameters_of (Err e) p = []
 abbrev pub Quiet : List ℕ → Type 0
 Quiet p =
     ((octet p 0 ≡ 1 → ⊥) × (octet p 0 ≡ 2 → ⊥))
-    ⊎ ((octet p 0 ≡ 1) × ((g : Profile) (address : List ℕ) (random : ℕ) (m : Model) → by_command (parse_command p) g address random p m ≡ reply [] m))
+    ⊎ ((octet p 0 ≡ 1)
+    × ((g : Profile) (address : List ℕ) (random : ℕ) (m : Model)
+    → by_command (parse_command p) g address random p m ≡ reply [] m))
 
 abbrev pub Tasks : List ℕ → List ℕ → ℕ → List ℕ → Task → Type 0
 Tasks opcodes answers family p task.Nothing = Quiet p
@@ -53,8 +55,10 @@ Tasks opcodes answers family p (task.Carried op part) = IsCommand opcodes answer
 abbrev pub CommandTask : List ℕ → List ℕ → ℕ → ℕ → ℕ → Task → Type 0
 CommandTask opcodes answers family op n task.Nothing = ⊥
 CommandTask opcodes answers family op n task.Data = ⊥
-CommandTask opcodes answers family op n (task.Answered o reason) = (o ≡ op) × Courses (row_answer opcodes answers op) op family n (Err reason)
-CommandTask opcodes answers family op n (task.Carried o part) = (o ≡ op) × Courses (row_answer opcodes answers op) op family n (Ok part)
+CommandTask opcodes answers family op n (task.Answered o reason) =
+    (o ≡ op) × Courses (row_answer opcodes answers op) op family n (Err reason)
+CommandTask opcodes answers family op n (task.Carried o part) =
+    (o ≡ op) × Courses (row_answer opcodes answers op) op family n (Ok part)
 
 -- ---- what it counts on and gives
 
@@ -74,7 +78,10 @@ pub record Delivers (k : ControllerRow) (p : List ℕ) (s t : Held) : Type 0 whe
   pub pool : PoolAfter (accepts k (parse_acl p) (view s.state (place_size k) s.pool)) k (stored p) s t
 
 -- a command packet p was carried out, or was cut short and did nothing
-pub record Carries (g : Profile) (address : List ℕ) (random : ℕ) (p : List ℕ) (s t : Controller) (out : List ℕ) (n : ℕ) (after : List ℕ) : Type 0 where
-  pub viewed : (size : ℕ) (pool : List ℕ) → view t size pool ≡ (by_command (parse_command p) g address random p (view s size pool)).state
-  pub written : (size : ℕ) (pool : List ℕ) → Put out 0 (by_command (parse_command p) g address random p (view s size pool)).octets n after
+pub record Carries (g : Profile) (address : List ℕ) (random : ℕ) (p : List ℕ) (s t : Controller) (out : List ℕ) (n : ℕ)
+    (after : List ℕ) : Type 0 where
+  pub viewed : (size : ℕ) (pool : List ℕ)
+      → view t size pool ≡ (by_command (parse_command p) g address random p (view s size pool)).state
+  pub written : (size : ℕ) (pool : List ℕ)
+      → Put out 0 (by_command (parse_command p) g address random p (view s size pool)).octets n after
   pub together : StateHolds t g.controller

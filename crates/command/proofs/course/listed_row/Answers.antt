@@ -1,7 +1,8 @@
 -- `command::listed_row` meets its contract.
 use mathlib.Core.Path.{sym, ◌∙◌}
 use Rattle.dispatch.proofs.Choosing.{part_of}
-use Rattle.command.proofs.Coursing.{sized_at, family_told, other_family_lem, unmodeled, bad_parameters, carried_out, placed, unplaced}
+use Rattle.command.proofs.Coursing.{sized_at, family_told, placed, unplaced}
+use Rattle.command.proofs.Coursing.{other_family_lem, unmodeled, bad_parameters, carried_out}
 use Rattle.command.proofs.course.listed_row.Goals as goal
 
 pub returns-then-other_family : goal.returns-then-other_family
@@ -35,6 +36,7 @@ returns-in-Some c =
     let s = c.args in
     let at = placed s.op c.in-Some.place (sym c.in-Some.is ∙ c.place_of.ensures) in
     rw c.if-not-modeled.false
-    (carried_out s.op s.now s.n (family_told s.op c.family_of.ensures c.other_family.ensures c.if-other_family.false) c.part_at.result
+    (carried_out s.op s.now s.n (family_told s.op c.family_of.ensures c.other_family.ensures c.if-other_family.false)
+    c.part_at.result
     (part_of s.op c.part_at.result (rw at.0 at at.1) (rw at.0 at c.part_at.ensures))
     (sized_at s.op _ s.n at.0 ∙ sym c.fits.ensures ∙ c.if-fits.true))

@@ -16,5 +16,5 @@ pub returns : goal.returns
 returns g c = λ address random.
     let r = c.carry_out-r in
     let n = c.finished-noted in
-    carried c.requires c.begun-begun.ensures address random (g.P.StatePart.put r.result.part) _ (r.ensures address random) n.result
-    (g.met.P.StatePart.noted_after r.result.part c.args.s _ _ _ _ _) (rw c.put-t.ensures at n.ensures)
+    carried c.requires c.begun-begun.ensures address random (g.P.StatePart.put r.result.part) _ (r.ensures address random)
+    n.result (g.met.P.StatePart.noted_after r.result.part c.args.s _ _ _ _ _) (rw c.put-t.ensures at n.ensures)

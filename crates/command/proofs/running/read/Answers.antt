@@ -15,4 +15,5 @@ finished-requires c =
 
 pub returns : goal.returns
 returns c =
-    carried c.requires c.begun-t.ensures c.args.address c.args.random no_part _ c.read-answer.ensures c.finished.result refl c.finished.ensures
+    carried c.requires c.begun-t.ensures c.args.address c.args.random no_part _ c.read-answer.ensures c.finished.result refl
+    c.finished.ensures

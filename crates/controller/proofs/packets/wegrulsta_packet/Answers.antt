@@ -8,10 +8,11 @@ use Rattle.commands.specs.Outcome.{given}
 use Rattle.command.specs.declared.Told.{Told}
 use Rattle.command.specs.Calling.{carried_by, CanCarry, Gave}
 use Rattle.calls.specs.Calls.{on_packet, held}
-use Rattle.calls.specs.Gives.{Gives, events, profile_of}
+use Rattle.calls.specs.Gives.{profile_of}
 use Rattle.receive.specs.Receiving.{IsCommand}
 use Rattle.controller.specs.Asked.{about_packet, CanReceive}
-use Rattle.controller.proofs.Received.{can_receive, gives_nothing, gives_data, gives_answered, gives_carried, can_carry}
+use Rattle.controller.proofs.Received.{can_receive, can_carry}
+use Rattle.controller.proofs.Received.{GivesTold, gives_nothing, gives_data, gives_answered, gives_carried}
 use Rattle.controller.proofs.packets.wegrulsta_packet.Goals.{In-Ok, In-Carried}
 use Rattle.controller.proofs.packets.wegrulsta_packet.Goals as goal
 
@@ -33,23 +34,25 @@ command c = rw (c.in-Ok.ensures.same.0, c.in-Ok.ensures.same.1) at c.in-Carried.
 counts : (c : In-Carried) {part : Part} → c.in-Carried.part ≡ part
     → CanCarry c.args.s c.args.profile c.in-Carried.op part c.parameters-p.result.now c.args.out.now
 counts c same =
+    let able = can (goal.at.In-Carried c).In-Ok in
     rw (← same)
-    (can_carry (can (goal.at.In-Carried c).In-Ok).store.ready (search (rules, c.well_formed)) (search (rules, c.well_formed)) (search (rules, c.well_formed))
-    (can (goal.at.In-Carried c).In-Ok).room (command c) c.parameters-p.ensures)
+    (can_carry able.store.ready (search (rules, c.well_formed)) (search (rules, c.well_formed)) (search (rules, c.well_formed))
+    able.room (command c) c.parameters-p.ensures)
 
 gives : (c : In-Carried) {r : Told} {after : List ℕ}
-    → Gave (carried_by (given c.args.profile c.args.address.now c.args.random c.parameters-p.result.now) c.in-Carried.op) c.args.profile
-    c.in-Carried.op c.args.s c.args.out.now r after
-    → Gives (profile_of c.args.profile c.args.opcodes.now c.args.answers.now c.args.bits.now)
-    (on_packet c.args.address.now c.args.random c.args.packet.now) (held c.args.s c.args.pool.now) (held r.state c.args.pool.now)
-    (events r.number r.written c.args.out.now after)
+    → Gave (carried_by (given c.args.profile c.args.address.now c.args.random c.parameters-p.result.now) c.in-Carried.op)
+    c.args.profile c.in-Carried.op c.args.s c.args.out.now r after
+    → GivesTold (profile_of c.args.profile c.args.opcodes.now c.args.answers.now c.args.bits.now)
+    (on_packet c.args.address.now c.args.random c.args.packet.now) (held c.args.s c.args.pool.now) c.args.out.now r
+    c.args.pool.now after
 gives c does =
-    gives_carried c.args.bits.now c.args.address.now c.args.random (asked (goal.at.In-Carried c).In-Ok) (command c) c.parameters-p.ensures does
+    gives_carried c.args.bits.now c.args.address.now c.args.random (asked (goal.at.In-Carried c).In-Ok) (command c)
+    c.parameters-p.ensures does
 
 pub returns-in-Nothing : goal.returns-in-Nothing
 returns-in-Nothing c =
-    gives_nothing c.args.bits.now c.args.address.now c.args.random (asked (goal.at.returns-in-Nothing c).In-Ok) c.in-Nothing.ensures
-    c.unchanged.ensures
+    gives_nothing c.args.bits.now c.args.address.now c.args.random (asked (goal.at.returns-in-Nothing c).In-Ok)
+    c.in-Nothing.ensures c.unchanged.ensures
 
 pub data-requires : goal.data-requires
 data-requires c = (can (goal.at.data-requires c).In-Ok).store
@@ -72,7 +75,8 @@ pub read-requires : goal.read-requires
 read-requires c = counts (goal.at.read-requires c).In-Carried c.in-Nothing-part.is
 
 pub returns-in-Nothing-part : goal.returns-in-Nothing-part
-returns-in-Nothing-part c = rw c.told-in-Nothing-part.ensures (gives (goal.at.returns-in-Nothing-part c).In-Carried c.read.ensures)
+returns-in-Nothing-part c =
+    rw c.told-in-Nothing-part.ensures (gives (goal.at.returns-in-Nothing-part c).In-Carried c.read.ensures)
 
 pub carried-requires : goal.carried-requires
 carried-requires c = counts (goal.at.carried-requires c).In-Carried c.in-Masks.is

@@ -6,4 +6,6 @@ pub returns-in_default : goal.returns-in_default
 returns-in_default c = rw c.into.ensures (finds_no_bitmap c.in_default.ensures.asked)
 
 pub returns : goal.returns
-returns c = let same = c.in-Some.ensures.same in finds_bitmap c.in-Some.ensures.asked (rw (same.1, same.2) at c.bitmap-map.ensures)
+returns c =
+    let same = c.in-Some.ensures.same in
+    finds_bitmap c.in-Some.ensures.asked (rw (same.1, same.2) at c.bitmap-map.ensures)

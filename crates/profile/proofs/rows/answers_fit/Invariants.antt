@@ -1,4 +1,4 @@
--- `rows::answers_fit` meets its contract: the greatest answer so far says whether each so far is at most 2.
+-- `rows::answers_fit`: the greatest answer so far says whether each so far is at most 2.
 use Rattle.std.proofs.Common.{◌≡◌, leb, take}
 use Rattle.lists.specs.Lists.{all}
 use Rattle.profile.proofs.rows.answers_fit.Given as goal

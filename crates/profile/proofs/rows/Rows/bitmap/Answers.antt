@@ -12,4 +12,6 @@ no_rows map (answer ∷ answers) [] e = refl
 no_rows map (answer ∷ answers) (bit ∷ bits) e = elim e [ inl h ↦ cc | inr h ↦ cc ]
 
 pub returns : goal.returns
-returns c = sym (c.loop-answer.invariant ∙ no_rows _ _ _ (either_empty_from_Zip c.loop-answer.answer-iterator c.next.new.self _ c.in-None.is c.next.ensures.steps))
+returns c =
+    let ended = either_empty_from_Zip c.loop-answer.answer-iterator c.next.new.self _ c.in-None.is c.next.ensures.steps in
+    sym (c.loop-answer.invariant ∙ no_rows _ _ _ ended)
