@@ -17,7 +17,9 @@ use Rattle.state.specs.State.{Model, le_event_enabled}
 use Rattle.state.specs.declared.Masks.{Masks}
 use Rattle.commands.specs.Outcome.{Outcome, outcome}
 use Rattle.commands.specs.Following.{enabled_by, le_meta_event, connection_failed}
-use Rattle.notices.specs.Notices.{tells, open_connection, connection_complete, accept_connection, peer_update, request_ltk, advertising_timeout, drop_in_flight, completed, disconnected, remote_disconnect, complete_disconnect}
+use Rattle.notices.specs.Notices.{tells, open_connection, connection_complete, accept_connection, peer_update, request_ltk}
+use Rattle.notices.specs.Notices.{advertising_timeout, drop_in_flight, completed, disconnected, remote_disconnect}
+use Rattle.notices.specs.Notices.{complete_disconnect}
 use Rattle.notices.specs.Tells.{AtMostOne, Tells}
 
 -- ---- events
@@ -33,7 +35,8 @@ module _ {code : ℕ} where
   event_cond true h k = h
   event_cond false h k = k
 
-le_one : (masks : Masks) (subevent : ℕ) (params : List ℕ) → length params ≤ 33 → AtMostOne 0x3E (le_meta_event masks subevent params)
+le_one : (masks : Masks) (subevent : ℕ) (params : List ℕ) → length params ≤ 33
+    → AtMostOne 0x3E (le_meta_event masks subevent params)
 unfolding le_meta_event
 le_one masks subevent params h =
     event_cond (le_event_enabled masks subevent) (one_event (meta_params subevent params) (omega arith)) no_event
@@ -42,11 +45,15 @@ failed_one : (masks : Masks) (code : ℕ) → AtMostOne 0x3E (connection_failed 
 unfolding connection_failed
 failed_one masks code = search (event_cond, one_event, le_one, lit≤, tt)
 
-connection_one : (masks : Masks) (head tail : List ℕ) → length head ≡ 11 → length tail ≡ 7 → AtMostOne 0x3E (connection_complete masks head tail)
+connection_one : (masks : Masks) (head tail : List ℕ) → length head ≡ 11 → length tail ≡ 7
+    → AtMostOne 0x3E (connection_complete masks head tail)
 unfolding connection_complete
 connection_one masks head tail h t =
-    event_cond (le_event_enabled masks 0x29) (one_event (meta_params 0x29 (head ++ replicate 12 0 ++ tail ++ 0xFF ∷ 0xFF ∷ 0xFF ∷ [])) (simp (length-append, h, t) (omega arith)))
-    (event_cond (le_event_enabled masks 0x0A) (one_event (meta_params 0x0A (head ++ replicate 12 0 ++ tail)) (simp (length-append, h, t) (omega arith)))
+    event_cond (le_event_enabled masks 0x29)
+    (one_event (meta_params 0x29 (head ++ replicate 12 0 ++ tail ++ 0xFF ∷ 0xFF ∷ 0xFF ∷ []))
+    (simp (length-append, h, t) (omega arith)))
+    (event_cond (le_event_enabled masks 0x0A)
+    (one_event (meta_params 0x0A (head ++ replicate 12 0 ++ tail)) (simp (length-append, h, t) (omega arith)))
     (le_one masks 0x01 _ (simp (length-append, h, t) (omega arith))))
 
 -- ---- answers
@@ -73,11 +80,13 @@ alone_cond false h k = k
 
 -- ---- the notices
 
-pub open_connection_silent : (handle interval latency timeout : ℕ) (m : Model) → (open_connection handle interval latency timeout m).answer ≡ silent
+pub open_connection_silent : (handle interval latency timeout : ℕ) (m : Model)
+    → (open_connection handle interval latency timeout m).answer ≡ silent
 unfolding open_connection
 open_connection_silent handle interval latency timeout m = refl
 
-pub accept_connection_tells : (handle kind : ℕ) (peer : List ℕ) (interval latency timeout accuracy : ℕ) (m : Model) → length peer ≡ 6
+pub accept_connection_tells : (handle kind : ℕ) (peer : List ℕ) (interval latency timeout accuracy : ℕ) (m : Model)
+    → length peer ≡ 6
     → Tells 0x3E (accept_connection handle kind peer interval latency timeout accuracy m)
 unfolding accept_connection
 accept_connection_tells handle kind peer interval latency timeout accuracy m six =
@@ -89,7 +98,8 @@ pub accept_connection_alone : (handle kind : ℕ) (peer : List ℕ) (interval la
 unfolding accept_connection
 accept_connection_alone handle kind peer interval latency timeout accuracy m = record { silent = refl }
 
-pub peer_update_tells : (handle interval latency timeout : ℕ) (m : Model) → Tells 0x3E (peer_update handle interval latency timeout m)
+pub peer_update_tells : (handle interval latency timeout : ℕ) (m : Model)
+    → Tells 0x3E (peer_update handle interval latency timeout m)
 unfolding peer_update
 peer_update_tells handle interval latency timeout m =
     told_cond (has handle m.links.connections) (told (le_one m.masks 0x03 _ (omega arith))) nothing_told
@@ -98,12 +108,15 @@ pub request_ltk_tells : (handle : ℕ) (random : List ℕ) (diversifier : ℕ) (
     → Tells 0x3E (request_ltk handle random diversifier m)
 unfolding request_ltk
 request_ltk_tells handle random diversifier m eight =
-    told_cond (has handle m.links.connections) (told (le_one m.masks 0x05 _ (simp (length-append, eight) (omega arith)))) nothing_told
+    told_cond (has handle m.links.connections) (told (le_one m.masks 0x05 _ (simp (length-append, eight) (omega arith))))
+    nothing_told
 
 -- without an acknowledgement, however many octets the random number has
-pub request_ltk_alone : (handle : ℕ) (random : List ℕ) (diversifier : ℕ) (m : Model) → Alone (request_ltk handle random diversifier m)
+pub request_ltk_alone : (handle : ℕ) (random : List ℕ) (diversifier : ℕ) (m : Model)
+    → Alone (request_ltk handle random diversifier m)
 unfolding request_ltk
-request_ltk_alone handle random diversifier m = alone_cond (has handle m.links.connections) (record { silent = refl }) (record { silent = refl })
+request_ltk_alone handle random diversifier m =
+    alone_cond (has handle m.links.connections) (record { silent = refl }) (record { silent = refl })
 
 pub advertising_timeout_tells : (m : Model) → Tells 0x3E (advertising_timeout m)
 unfolding advertising_timeout
@@ -115,11 +128,13 @@ drop_in_flight_silent count m = refl
 
 pub completed_tells : (handle count : ℕ) (m : Model) → Tells 0x13 (completed handle count m)
 unfolding completed pairs
-completed_tells handle count m = told_cond (eqb count 0) nothing_told (told (one_event (completed_params (handle ∷ []) (count ∷ [])) (omega arith)))
+completed_tells handle count m = told_cond (eqb count 0) nothing_told
+    (told (one_event (completed_params (handle ∷ []) (count ∷ [])) (omega arith)))
 
 disconnected_tells : (handle reason : ℕ) (m : Model) → Tells 0x05 (disconnected handle reason m)
 disconnected_tells handle reason m =
-    told_cond (has handle m.links.connections) (told (event_cond (enabled_by m.masks.event 4) (one_event (0x00 ∷ le 2 handle ++ reason ∷ []) (omega arith)) no_event))
+    told_cond (has handle m.links.connections)
+    (told (event_cond (enabled_by m.masks.event 4) (one_event (0x00 ∷ le 2 handle ++ reason ∷ []) (omega arith)) no_event))
     nothing_told
 
 pub remote_disconnect_tells : (handle reason : ℕ) (m : Model) → Tells 0x05 (remote_disconnect handle reason m)

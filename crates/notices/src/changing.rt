@@ -6,6 +6,7 @@ ghost use Rattle.commands.specs.Outcome.{GivesAny};
 ghost use Rattle.commands.specs.Put.{put_links};
 ghost use Rattle.notices.specs.Notices.{peer_update, request_ltk};
 
+use crate::silent;
 use commands::Answered;
 use hci::subevent::LONG_TERM_KEY_REQUEST;
 use links::{Links, Timing};
@@ -15,19 +16,15 @@ use state::Controller;
 #[tactic(auto, unfolding(crate::specs::Notices::peer_update))]
 pub fn peer_update(s: Controller, handle: u16, timing: Timing) -> Answered<Links>
     requires { CountsFit s.links }
-    ensures { GivesAny (peer_update handle timing.interval timing.latency timing.timeout) s (put_links result.part s) result.answer }
+    ensures { GivesAny (peer_update handle timing.interval timing.latency timing.timeout)
+        s (put_links result.part s) result.answer }
 {
-    let answer = answers::silent();
-    let links = s.links;
-    if !links::has(links, handle) {
-        return Answered {
-            part: links,
-            answer,
-        };
+    if !links::has(s.links, handle) {
+        return silent::untold(s.links);
     }
     Answered {
-        part: links::set_parameters(links, handle, timing),
-        answer: commands::followed_by_update(answer, s.masks, handle, timing),
+        part: links::set_parameters(s.links, handle, timing),
+        answer: commands::followed_by_update(answers::silent(), s.masks, handle, timing),
     }
 }
 
@@ -48,17 +45,13 @@ pub fn request_ltk(s: Controller, handle: u16, random: [u8; 8], ediv: u16) -> An
     requires { CountsFit s.links }
     ensures { GivesAny (request_ltk handle random ediv) s (put_links result.part s) result.answer }
 {
-    let answer = answers::silent();
-    let links = s.links;
-    if !links::has(links, handle) {
-        return Answered {
-            part: links,
-            answer,
-        };
+    if !links::has(s.links, handle) {
+        return silent::untold(s.links);
     }
+    let answer = answers::silent();
     let params = key_request(handle, random, ediv);
     Answered {
-        part: links::set_ltk_requested(links, handle, 1),
+        part: links::set_ltk_requested(s.links, handle, 1),
         answer: commands::followed_by_le(answer, s.masks, LONG_TERM_KEY_REQUEST, &params),
     }
 }

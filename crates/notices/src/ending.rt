@@ -6,6 +6,7 @@ ghost use Rattle.commands.specs.Outcome.{GivesAny};
 ghost use Rattle.commands.specs.Put.{put_links};
 ghost use Rattle.notices.specs.Notices as spec;
 
+use crate::silent;
 use commands::Answered;
 use hci::event_code::DISCONNECTION_COMPLETE;
 use hci::status::{LOCAL_HOST_TERMINATED, SUCCESS};
@@ -17,15 +18,11 @@ fn disconnected(s: Controller, handle: u16, reason: u8) -> Answered<Links>
     requires { CountsFit s.links }
     ensures { GivesAny (spec.disconnected handle reason) s (put_links result.part s) result.answer }
 {
-    let answer = answers::silent();
-    let links = s.links;
-    if !links::has(links, handle) {
-        return Answered {
-            part: links,
-            answer,
-        };
+    if !links::has(s.links, handle) {
+        return silent::untold(s.links);
     }
-    let ended = links::end_connection(links, handle);
+    let answer = answers::silent();
+    let ended = links::end_connection(s.links, handle);
     let [low, high] = handle.to_le_bytes();
     let enabled = (s.masks.event >> 4) % 2 == 1;
     let params = [SUCCESS, low, high, reason];

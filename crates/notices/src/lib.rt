@@ -8,6 +8,7 @@ mod changing;
 mod ending;
 mod opening;
 mod packets;
+mod silent;
 
 pub use changing::{peer_update, request_ltk};
 pub use ending::{complete_disconnect, remote_disconnect};

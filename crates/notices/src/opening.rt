@@ -5,6 +5,7 @@ ghost use Rattle.commands.specs.Outcome.{Answers, GivesAny};
 ghost use Rattle.commands.specs.Put.{put_links};
 ghost use Rattle.notices.specs.Notices.{tells, open_connection, connection_complete, accept_connection, advertising_timeout};
 
+use crate::silent;
 use answers::Answer;
 use commands::Answered;
 use hci::status::{ADVERTISING_TIMEOUT, SUCCESS};
@@ -18,12 +19,10 @@ use state::{Controller, Masks};
 #[tactic(auto, unfolding(crate::specs::Notices::open_connection))]
 pub fn open_connection(s: Controller, handle: u16, timing: Timing) -> Answered<Links>
     requires { CountsFit s.links × (can_open handle (opened s.links) ≡ true) }
-    ensures { GivesAny (open_connection handle timing.interval timing.latency timing.timeout) s (put_links result.part s) result.answer }
+    ensures { GivesAny (open_connection handle timing.interval timing.latency timing.timeout)
+        s (put_links result.part s) result.answer }
 {
-    Answered {
-        part: links::open_connection(s.links, handle, timing),
-        answer: answers::silent(),
-    }
+    silent::untold(links::open_connection(s.links, handle, timing))
 }
 
 // The parameters of LE Connection Complete. `head` is all before the peer's address, `tail` the parameters of the link and the
@@ -67,7 +66,8 @@ fn connection_complete(masks: Masks, head: [u8; 5], peer: [u8; 6], tail: [u8; 7]
     commands::followed_by_le(answer, masks, CONNECTION_COMPLETE, &params)
 }
 
-// A central's CONNECT_IND: advertising ends and the link opens, also where the event is masked. The role is 0x01, peripheral.
+// A central's CONNECT_IND: advertising ends and the link opens, also where the event is masked. The role is 0x01, peripheral. An
+// address in a CONNECT_IND is public or random, by one bit (TxAdd), so `peer_random` is a flag.
 #[tactic(auto, unfolding(crate::specs::Notices::accept_connection))]
 pub fn accept_connection(
     s: Controller,
@@ -78,7 +78,8 @@ pub fn accept_connection(
     sca: u8,
 ) -> Answered<Controller>
     requires { CountsFit s.links × (can_open handle (opened s.links) ≡ true) }
-    ensures { GivesAny (accept_connection handle (cond peer_random 1 0) peer timing.interval timing.latency timing.timeout sca) s result.part result.answer }
+    ensures { GivesAny (accept_connection handle (cond peer_random 1 0) peer timing.interval timing.latency timing.timeout sca)
+        s result.part result.answer }
 {
     let kind = u8::from(peer_random);
     let [low, high] = handle.to_le_bytes();

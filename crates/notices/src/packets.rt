@@ -5,6 +5,7 @@ ghost use Rattle.commands.specs.Outcome.{GivesAny};
 ghost use Rattle.commands.specs.Put.{put_links};
 ghost use Rattle.notices.specs.Notices as spec;
 
+use crate::silent;
 use commands::Answered;
 use hci::event_code::NUMBER_OF_COMPLETED_PACKETS;
 use links::Links;
@@ -17,10 +18,7 @@ pub fn drop_in_flight(s: Controller, count: u16) -> Answered<Links>
     requires { CountsFit s.links }
     ensures { GivesAny (spec.drop_in_flight count) s (put_links result.part s) result.answer }
 {
-    Answered {
-        part: links::settle(s.links, count),
-        answer: answers::silent(),
-    }
+    silent::untold(links::settle(s.links, count))
 }
 
 // Number Of Completed Packets (section 7.7.19) of one link, which no mask can disable; none completed, nothing is told.
@@ -29,19 +27,15 @@ pub fn completed(s: Controller, handle: u16, count: u16) -> Answered<Links>
     requires { CountsFit s.links }
     ensures { GivesAny (spec.completed handle count) s (put_links result.part s) result.answer }
 {
-    let answer = answers::silent();
-    let links = s.links;
     if count == 0 {
-        return Answered {
-            part: links,
-            answer,
-        };
+        return silent::untold(s.links);
     }
+    let answer = answers::silent();
     let [low, high] = handle.to_le_bytes();
     let [count_low, count_high] = count.to_le_bytes();
     let params = [1, low, high, count_low, count_high];
     Answered {
-        part: links::settle(links, count),
+        part: links::settle(s.links, count),
         answer: commands::followed_by_event(answer, true, NUMBER_OF_COMPLETED_PACKETS, &params),
     }
 }
