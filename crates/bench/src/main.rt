@@ -1,34 +1,29 @@
-// The bench program of document 01: records from standard input, one a line, and what each answers to standard output. It streams:
-// no more of the input is held than one line. A line that is no record ends the run, silently. What a line asks for and what is
-// printed for it is the crate `records`.
+// The bench program of document 01: records from standard input, one a line, and what each answers to standard output. It
+// streams: no more of the input is held than one line. A line that is no record ends the run, silently. What a line asks for and
+// what is printed for it is the crate `records`.
 #![tactic(auto)]
 
 ghost use Rattle.std.specs.Prelude.{◌≤◌};
-ghost use Rattle.calls.specs.Calls as calls;
-ghost use Rattle.records.specs.Bench.{Running};
 
-use state::Controller;
+use records::Unit;
 use std::io;
 use std::io::Read;
 
-// Between two parts of the input: the unit's state and pool, the buffer of a line with how many octets at its front are held, and
-// a buffer for the octets of a packet. The state always holds together, also where a read or a write has failed.
+// Between two parts of the input: the unit, the buffer of a line with how many octets at its front are held, and a buffer for the
+// octets of a packet. The unit's state always holds together, also where a read or a write has failed.
 #[derive(Drop)]
 struct Bench {
-    state: Controller,
-    pool: [u8; 64],
+    unit: Unit,
     line: [u8; 2050],
     held: usize,
     packet: [u8; 1024],
-    ghost runs: { Running (calls.held state pool) },
     ghost fits: { held ≤ 2050 },
 }
 
 fn main(rt: HostRuntime) -> io::Result<()> {
     println!(rt; "H\t1")?;
     let mut bench = Bench {
-        state: controller::default_state(),
-        pool: [0; 64],
+        unit: Unit::new(),
         line: [0; 2050],
         held: 0,
         packet: [0; 1024],
@@ -86,22 +81,13 @@ impl Bench {
 
     // The octets that are held are a line: its answer is printed, and nothing is held.
     fn on_line(&mut self, rt: &impl Print) -> io::Result<bool> {
-        let mut out = [0u8; 512];
         let line = &self.line[..self.held];
-        let answer = records::step(
-            self.state,
-            &mut self.pool,
-            line,
-            &mut self.packet,
-            &mut out,
-            0,
-        );
+        let answer = self.unit.step(line, &mut self.packet);
         self.held = 0;
-        let Some(printed) = answer else {
+        let Some(text) = answer else {
             return Ok(false);
         };
-        self.state = printed.state;
-        rt.write_all(&out[..printed.next])?;
+        rt.write_all(text.as_slice())?;
         Ok(true)
     }
 }

@@ -1,5 +1,5 @@
-// HCI packets and masks (Core Vol 4 Part E): writers, readers, bits. A writer asks questions 8 and 9, `wegrulsta_mask_has` 10. Answers
-// are structs of numbers, since no enum that holds a value crosses to C.
+// HCI packets and masks (Core Vol 4 Part E): writers, readers, bits. A writer asks questions 8 and 9, `wegrulsta_mask_has` 10.
+// Answers are structs of numbers, since no enum that holds a value crosses to C by value.
 ghost use Rattle.std.specs.Prelude.{◌≡◌, min, length};
 ghost use Rattle.hci.specs.Packet as packet;
 ghost use Rattle.hci.specs.Write as write;
@@ -140,17 +140,11 @@ impl From<Result<Command, ReadError>> for ReadCommand {
     ghost from_gives = { λ answer r. r ≡ command_of answer };
 
     fn from(answer: Result<Command, ReadError>) -> ReadCommand {
-        match answer {
-            Ok(c) => ReadCommand {
-                kind: WHOLE,
-                len: c.len,
-                opcode: c.opcode,
-            },
-            Err(e) => ReadCommand {
-                kind: kind_of(e),
-                len: 0,
-                opcode: 0,
-            },
+        let c = answer.unwrap_or(Command { opcode: 0, len: 0 });
+        ReadCommand {
+            kind: answer.err().map_or(WHOLE, kind_of),
+            len: c.len,
+            opcode: c.opcode,
         }
     }
 }
@@ -167,21 +161,18 @@ impl From<Result<Acl, ReadError>> for ReadAcl {
     ghost from_gives = { λ answer r. r ≡ acl_of answer };
 
     fn from(answer: Result<Acl, ReadError>) -> ReadAcl {
-        match answer {
-            Ok(c) => ReadAcl {
-                kind: WHOLE,
-                boundary: c.boundary,
-                broadcast: c.broadcast,
-                handle: c.handle,
-                len: c.len,
-            },
-            Err(e) => ReadAcl {
-                kind: kind_of(e),
-                boundary: 0,
-                broadcast: 0,
-                handle: 0,
-                len: 0,
-            },
+        let c = answer.unwrap_or(Acl {
+            handle: 0,
+            boundary: 0,
+            broadcast: 0,
+            len: 0,
+        });
+        ReadAcl {
+            kind: answer.err().map_or(WHOLE, kind_of),
+            boundary: c.boundary,
+            broadcast: c.broadcast,
+            handle: c.handle,
+            len: c.len,
         }
     }
 }

@@ -1,5 +1,5 @@
--- The fields of a line: up to its first tab and from there on, and what the first two characters of a line say of it. For the proofs
--- of the reader.
+-- The fields of a line: up to its first tab and from there on, and what the first two characters of a line say of it. For the
+-- proofs of the reader.
 use Prim.Native.Nat.{ℕ, suc, ◌-◌, ◌≤◌, ◌<◌}
 use native.Mathlib.Nat.{le_of_suc-le-suc}
 use native.Mathlib.Omega.{arith}
@@ -41,7 +41,8 @@ fields_alone (x ∷ l) h =
     cases (eqb x 9) (λ e. absurd (true≢false (rw e at h))) (λ e. rw (e, fields_alone l (rw e at h)))
 
 -- the first field ends at the first tab
-pub fields_first : (l : List ℕ) → first_at is_tab l < length l → fields l ≡ take (first_at is_tab l) l ∷ fields (drop (suc (first_at is_tab l)) l)
+pub fields_first : (l : List ℕ) → first_at is_tab l < length l
+    → fields l ≡ take (first_at is_tab l) l ∷ fields (drop (suc (first_at is_tab l)) l)
 unfolding fields first_at
 fields_first [] h = absurd (omega arith)
 fields_first (x ∷ l) h =
@@ -115,7 +116,8 @@ letter_many x y l (a ∷ b ∷ c ∷ d ∷ []) = rw (and-false (eqb x 79))
 letter_many x y l (a ∷ b ∷ c ∷ d ∷ e ∷ fs) = refl
 
 -- neither `P` nor `O`: a pair of numbers
-letter_pair : (x : ℕ) (fs : List (List ℕ)) → eqb x 80 ≡ false → eqb x 79 ≡ false → read_fields ((x ∷ []) ∷ fs) ≡ pair_line x (pair_of fs)
+letter_pair : (x : ℕ) (fs : List (List ℕ)) → eqb x 80 ≡ false → eqb x 79 ≡ false
+    → read_fields ((x ∷ []) ∷ fs) ≡ pair_line x (pair_of fs)
 unfolding same_list
 letter_pair x [] p o = refl
 letter_pair x (a ∷ []) p o = rw p
@@ -163,7 +165,8 @@ module _ (line : List ℕ) (x : ℕ) (h : 2 ≤ length line) (t : get_or line 1 
   line_letter n = rw (part_to_end line 2) (letter_tab line x h t e n)
 
   -- neither `P` nor `O`
-  pub line_pair : (p : Option (ℕ × ℕ)) → eqb x 80 ≡ false → eqb x 79 ≡ false → p ≡ pair_of (fields (behind line 2)) → pair_line x p ≡ read_line line
+  pub line_pair : (p : Option (ℕ × ℕ)) → eqb x 80 ≡ false → eqb x 79 ≡ false → p ≡ pair_of (fields (behind line 2))
+      → pair_line x p ≡ read_line line
   line_pair p n o q =
       cases (eqb x 9)
       (λ u. let z = eqb-true x 9 u in rw z (no_letter 9 p refl refl) ∙ line_tab line h (e ∙ z))
@@ -171,4 +174,5 @@ module _ (line : List ℕ) (x : ℕ) (h : 2 ≤ length line) (t : get_or line 1 
 
   -- and neither `T` nor `C`
   pub line_other : eqb x 80 ≡ false → eqb x 79 ≡ false → eqb x 84 ≡ false → eqb x 67 ≡ false → no_record ≡ read_line line
-  line_other n o u v = sym (no_letter x (pair_of (fields (behind line 2))) u v) ∙ line_pair (pair_of (fields (behind line 2))) n o refl
+  line_other n o u v = sym (no_letter x (pair_of (fields (behind line 2))) u v)
+      ∙ line_pair (pair_of (fields (behind line 2))) n o refl

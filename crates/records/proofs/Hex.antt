@@ -1,5 +1,5 @@
--- Packets in a line: the value of a hex digit, the loop that reads pairs of them into a buffer, and what a field that is a packet, or
--- is none, says of the record. For the proofs of the reader.
+-- Packets in a line: the value of a hex digit, the loop that reads pairs of them into a buffer, and what a field that is a
+-- packet, or is none, says of the record. For the proofs of the reader.
 use Prim.Native.Nat.{ℕ, suc, ◌+◌, ◌-◌, ◌*◌, ◌/◌, ◌%◌, ◌≤◌, ◌<◌}
 use native.Mathlib.Omega.{arith}
 use native.Mathlib.Numerals.{add-one}
@@ -154,7 +154,8 @@ module _ (f : List ℕ) where
   unfolding is_packet
   packet_digit h = packet_not f (rw h)
 
-  pub packet_read : {before packet : List ℕ} {j : ℕ} → Pairs f before packet j → length f ≡ 2 * (length f / 2) → length f / 2 ≤ 1024
+  pub packet_read : {before packet : List ℕ} {j : ℕ} → Pairs f before packet j → length f ≡ 2 * (length f / 2)
+      → length f / 2 ≤ 1024
       → j ≡ length f / 2 → calls (on_packet (replicate 6 0) 0 (take (length f / 2) packet)) ≡ read_fields ((80 ∷ []) ∷ fields f)
   unfolding is_packet octets_of all
   packet_read {before} {packet} {j} c e h s =

@@ -3,7 +3,6 @@ pub mod Fields
 pub mod Numbers
 pub mod Hex
 pub mod Printing
-pub mod PacketLines
 pub mod Benching
 pub mod Making
 pub mod Running

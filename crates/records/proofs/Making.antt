@@ -5,10 +5,11 @@ use Prim.Native.Nat.{ℕ, ◌≤◌, ◌<◌}
 use lib.ListN.{length}
 use borrow.Author.Tests.{le-leb, lt-leb}
 use Rattle.std.specs.Prelude.{Some, None}
-use Rattle.calls.specs.Calls.{Call, advertising_timeout, Held, held}
+use Rattle.calls.specs.Calls.{Call, advertising_timeout, Held}
 use Rattle.records.specs.Lines.{Line, calls, no_record, read_line, record_of}
 use Rattle.records.specs.Bench.{Prints, is_record, Steps}
-use Rattle.records.specs.declared.bench.Printed.{Printed}
+use Rattle.records.specs.declared.print.Text.{Text}
+use Rattle.records.specs.Text.{text_of}
 
 -- a line is a record or none
 pub record_differs : {c : Call} → no_record ≡ calls c → ⊥
@@ -34,24 +35,23 @@ unfolding record_of
 too_long line h = rw (lt-leb (length line) 2050 h)
 
 -- a line that is no record changes nothing
-pub steps_none : {line : List ℕ} {s : Held} {out : List ℕ} {at : ℕ} → record_of line ≡ no_record → Steps line s s.pool out at None out
+pub steps_none : {line : List ℕ} {s : Held} → record_of line ≡ no_record → Steps line s s None
 steps_none none = record {
   asked = sym (ap is_record none);
   printed = λ c e. absurd (record_differs (sym none ∙ e));
-  ended = λ e. (refl, refl);
+  ended = λ e. refl;
 }
 
-pub steps_unread : {line : List ℕ} {s : Held} {out : List ℕ} {at : ℕ} → length line ≤ 2050 → no_record ≡ read_line line
-    → Steps line s s.pool out at None out
+pub steps_unread : {line : List ℕ} {s : Held} → length line ≤ 2050 → no_record ≡ read_line line → Steps line s s None
 steps_unread {line} h e = steps_none (read_record line h e)
 
 -- any other is a record
-pub steps_record : {line : List ℕ} {s : Held} {pool out : List ℕ} {at : ℕ} {r : Printed} {after : List ℕ} (c : Call) → length line ≤ 2050
-    → calls c ≡ read_line line → Prints c s (held r.state pool) out at r.next after → Steps line s pool out at (Some r) after
-steps_record {line} {s} {pool} {out} {at} {r} {after} c h e prints =
+pub steps_record : {line : List ℕ} {s t : Held} {text : Text} (c : Call) → length line ≤ 2050 → calls c ≡ read_line line
+    → Prints c s t (text_of text) → Steps line s t (Some text)
+steps_record {line} {s} {t} {text} c h e prints =
     let is = read_record line h e in
     record {
       asked = sym (ap is_record is);
-      printed = λ d same. subst (λ (x : Call). Prints x s (held r.state pool) out at r.next after) (ap call_in (sym is ∙ same)) prints;
+      printed = λ d same. subst (λ (x : Call). Prints x s t (text_of text)) (ap call_in (sym is ∙ same)) prints;
       ended = λ none. absurd (record_differs (sym none ∙ is));
     }

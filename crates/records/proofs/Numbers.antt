@@ -1,5 +1,5 @@
--- Numbers in a line: the loop that reads a field's digits, and what a field that is a number, or is none, says of the record. For the
--- proofs of the reader.
+-- Numbers in a line: the loop that reads a field's digits, and what a field that is a number, or is none, says of the record. For
+-- the proofs of the reader.
 use Prim.Native.Nat.{ℕ, suc, ◌+◌, ◌-◌, ◌*◌, ◌≤◌, ◌<◌}
 use native.Mathlib.Omega.{arith}
 use native.Mathlib.Numerals.{add-one}
@@ -38,7 +38,8 @@ pub record Counting (f : List ℕ) (n i : ℕ) : Type 0 where
   pub value : decimal 0 f ≡ decimal n (drop i f)
   pub digits : all is_digit f ≡ all is_digit (drop i f)
 
-pub counting_next : {f : List ℕ} {n i m : ℕ} → Counting f n i → i < length f → is_digit (get_or f i 0) ≡ true → m ≡ 10 * n + (get_or f i 0 - 48)
+pub counting_next : {f : List ℕ} {n i m : ℕ} → Counting f n i → i < length f → is_digit (get_or f i 0) ≡ true
+    → m ≡ 10 * n + (get_or f i 0 - 48)
     → m ≤ 65535 → Counting f m (i + 1)
 unfolding decimal all
 counting_next {f} {n} {i} {m} c h digit e most = record {
@@ -57,7 +58,8 @@ counting_other {f} {n} {i} c h other =
     rw (e, and-false (leb 1 (length f)))
 
 -- the number is too large already
-pub counting_past : {f : List ℕ} {n i : ℕ} → Counting f n i → i < length f → 65535 < 10 * n + (get_or f i 0 - 48) → None ≡ number_of f
+pub counting_past : {f : List ℕ} {n i : ℕ} → Counting f n i → i < length f → 65535 < 10 * n + (get_or f i 0 - 48)
+    → None ≡ number_of f
 unfolding number_of is_number decimal
 counting_past {f} {n} {i} c h most =
     let m = 10 * n + (get_or f i 0 - 48) in
@@ -210,7 +212,8 @@ pair_one l n i h k =
     let a = head_yes l n i h in
     rw a.is (pair_unlike a.field (last_no (drop i l) (k ∙ ap number_of (part_to_end l i))))
 
-pub pair_both : (l : List ℕ) (n i m : ℕ) → Some (n, i) ≡ first_of l → Some m ≡ number_of (behind l i) → Some (n, m) ≡ pair_of (fields l)
+pub pair_both : (l : List ℕ) (n i m : ℕ) → Some (n, i) ≡ first_of l → Some m ≡ number_of (behind l i)
+    → Some (n, m) ≡ pair_of (fields l)
 pair_both l n i m h k =
     let a = head_yes l n i h in
     let b = last_yes (drop i l) m (k ∙ ap number_of (part_to_end l i)) in
@@ -238,7 +241,8 @@ opening_second a (wrong f g [] n) = refl
 opening_second a (wrong f g (b ∷ []) n) = rw (n, and-false (is_number a))
 opening_second a (wrong f g (b ∷ c ∷ fs) n) = refl
 
-opening_pair : (a b : List ℕ) (fs : List (List ℕ)) (n m : ℕ) → is_number a ≡ true → is_number b ≡ true → decimal 0 a ≡ n → decimal 0 b ≡ m
+opening_pair : (a b : List ℕ) (fs : List (List ℕ)) (n m : ℕ) → is_number a ≡ true → is_number b ≡ true → decimal 0 a ≡ n
+    → decimal 0 b ≡ m
     → open_line n m (pair_of fs) ≡ read_fields ((79 ∷ []) ∷ a ∷ b ∷ fs)
 unfolding same_list
 opening_pair a b [] n m y z v w = rw (y, z)

@@ -1,19 +1,19 @@
--- The bench: the rows beside document 01's profile, and what is printed for each line of input. For readers of the program `bench`
--- and of the C calls.
-use Rattle.std.specs.Prelude.{◌≡◌, ℕ, ◌-◌, ◌≤◌, Bool, true, false, cond, leb, eqb, length, Option, IfSome}
+-- The bench: the rows beside document 01's profile, and what is printed for each line of input. For readers of the program
+-- `bench` and of the C calls.
+use Rattle.std.specs.Prelude.{◌≡◌, ℕ, ◌-◌, Bool, true, false, cond, leb, eqb, length, Option, IfSome}
 use Rattle.std.specs.Option.{is_some}
 use mathlib.Core.List.{List, [], ◌∷◌, ◌++◌, map, flatten}
-use Rattle.octets.specs.Octets.{Put}
 use Rattle.h4.specs.Framing.{packets}
 use Rattle.links.specs.Links.{in_use}
 use Rattle.state.specs.State.{Model, default_model}
-use Rattle.state.specs.Holding.{StateHolds}
-use Rattle.state.specs.declared.Controller.{Controller}
 use Rattle.commands.specs.Table as table
 use Rattle.calls.specs.Packets.{Profile, Reply, reply}
-use Rattle.calls.specs.Calls.{Call, on_packet, take_transmit, open_connection, completed, drop_in_flight, accept_connection, peer_update, request_ltk, complete_disconnect, remote_disconnect, advertising_timeout, Held, held, model_of, first_no, questions_of, reply_to}
+use Rattle.calls.specs.Calls.{Call, on_packet, take_transmit, open_connection, completed, drop_in_flight, accept_connection}
+use Rattle.calls.specs.Calls.{peer_update, request_ltk, complete_disconnect, remote_disconnect, advertising_timeout, Held}
+use Rattle.calls.specs.Calls.{model_of, first_no, questions_of, reply_to}
 use Rattle.bench_profile.specs.Bench.{bench_controller}
-use Rattle.records.specs.declared.bench.Printed.{Printed}
+use Rattle.records.specs.declared.print.Text.{Text}
+use Rattle.records.specs.Text.{text_of}
 use Rattle.records.specs.Lines.{Line, calls, no_record, before, record_of, hex_line, done_line}
 
 -- ---- the profile: `bench_controller` in `bench_profile/specs/Bench.antt`, with its rows
@@ -96,30 +96,20 @@ header = 72 ∷ 9 ∷ 49 ∷ 10 ∷ []
 
 -- ---- contracts
 
--- between two lines: the state holds together, and the pool has its two places
-pub record Running (s : Held) : Type 0 where
-  pub together : StateHolds s.state bench_controller
-  pub places : 64 ≤ length s.pool
-
--- the call c was made, and its answer printed from index at
-pub record Prints (c : Call) (s t : Held) (out : List ℕ) (at r : ℕ) (after : List ℕ) : Type 0 where
+-- the call c was made, and this text is its answer
+pub record Prints (c : Call) (s t : Held) (text : List ℕ) : Type 0 where
   pub viewed : model_of bench t ≡ (printed c (model_of bench s)).state
-  pub written : Put out at (printed c (model_of bench s)).octets r after
-  pub running : Running t
-
--- the same of a call that takes no pool, whatever the pool holds
-abbrev pub PrintsAnyPool : Call → Controller → Controller → List ℕ → ℕ → ℕ → List ℕ → Type 0
-PrintsAnyPool c s t out at r after = (pool : List ℕ) → 64 ≤ length pool → Prints c (held s pool) (held t pool) out at r after
+  pub written : text ≡ (printed c (model_of bench s)).octets
 
 abbrev pub is_record : Line → Bool
 is_record (calls c) = true
 is_record no_record = false
 
 -- one line: a record's call is made and printed; a line that is none changes nothing
-pub record Steps (line : List ℕ) (s : Held) (pool out : List ℕ) (at : ℕ) (answer : Option Printed) (after : List ℕ) : Type 0 where
+pub record Steps (line : List ℕ) (s t : Held) (answer : Option Text) : Type 0 where
   pub asked : is_some answer ≡ is_record (record_of line)
-  pub printed : (c : Call) → record_of line ≡ calls c → IfSome answer (λ r. Prints c s (held r.state pool) out at r.next after)
-  pub ended : record_of line ≡ no_record → (pool ≡ s.pool) × (after ≡ out)
+  pub printed : (c : Call) → record_of line ≡ calls c → IfSome answer (λ text. Prints c s t (text_of text))
+  pub ended : record_of line ≡ no_record → t ≡ s
 
 -- all lines, from the default state; a buffer of less than 4 octets stays as it is
 abbrev pub run_octets : ℕ → List ℕ → List ℕ

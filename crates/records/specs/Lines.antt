@@ -1,6 +1,7 @@
--- Bench lines, document 01: what a line of input says, and how an answer is printed. For readers of the program `bench` and of the
--- C calls. A line is the octets before a newline; characters are octets, in ASCII.
-use Rattle.std.specs.Prelude.{ℕ, ◌+◌, ◌-◌, ◌*◌, ◌/◌, ◌%◌, List, [], ◌∷◌, ◌++◌, Bool, cond, ◌&&◌, ◌||◌, leb, eqb, length, replicate}
+-- Bench lines, document 01: what a line of input says, and how an answer is printed. For readers of the program `bench` and of
+-- the C calls. A line is the octets before a newline; characters are octets, in ASCII.
+use Rattle.std.specs.Prelude.{ℕ, ◌+◌, ◌-◌, ◌*◌, ◌/◌, ◌%◌, List, [], ◌∷◌, ◌++◌, Bool, cond, ◌&&◌, ◌||◌, leb, eqb, length}
+use Rattle.std.specs.Prelude.{replicate}
 use Rattle.lists.specs.Lists.{all, same_list}
 use Rattle.calls.specs.Calls.{Call, on_packet, take_transmit, open_connection, completed}
 
@@ -53,7 +54,8 @@ pub data Line : Type 0 where
 abbrev pub read_fields : List (List ℕ) → Line
 read_fields [] = no_record
 read_fields (k ∷ []) = no_record
-read_fields (k ∷ a ∷ []) = cond (same_list k (80 ∷ []) && is_packet a) (calls (on_packet (replicate 6 0) 0 (octets_of a))) no_record
+read_fields (k ∷ a ∷ []) = cond (same_list k (80 ∷ []) && is_packet a) (calls (on_packet (replicate 6 0) 0 (octets_of a)))
+    no_record
 read_fields (k ∷ a ∷ b ∷ []) =
     cond (is_number a && is_number b)
     (cond (same_list k (84 ∷ [])) (calls (take_transmit (decimal 0 a) (decimal 0 b)))

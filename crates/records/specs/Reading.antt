@@ -35,7 +35,8 @@ followed (Some n) next = Some (n, next)
 followed None next = None
 
 unfoldable pub first_of : List ℕ → Option (ℕ × ℕ)
-first_of l = cond (ltb (first_at is_tab l) (length l)) (followed (number_of (take (first_at is_tab l) l)) (first_at is_tab l + 1)) None
+first_of l = cond (ltb (first_at is_tab l) (length l))
+    (followed (number_of (take (first_at is_tab l) l)) (first_at is_tab l + 1)) None
 
 -- two fields, both numbers
 abbrev pub pair_of : List (List ℕ) → Option (ℕ × ℕ)

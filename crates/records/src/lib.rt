@@ -1,13 +1,16 @@
-// Bench lines (document 01): reading a line, making the call that it asks for, and printing what the call answers. For the program
-// `bench` and for the C calls. Contracts cite `specs/Lines.antt` and `specs/Bench.antt`.
+// Bench lines (document 01): reading a line, making the call that it asks for, and printing what the call answers. For the
+// program `bench` and for the C calls. Contracts cite `specs/Lines.antt` and `specs/Bench.antt`.
 #![tactic(auto)]
 
 mod bench;
+mod input;
 mod print;
 mod read;
 mod rows;
 
-pub use bench::{Printed, bench_profile, run, step};
+pub use bench::{Unit, bench_profile};
+pub use input::run;
+pub use print::Text;
 
 // The four numbers of a record that opens a link.
 #[derive(Clone, Copy)]

@@ -1,10 +1,103 @@
-// Printing the answer of a call. Each function takes the buffer and an index, and gives the index behind what it wrote: a struct of
-// the two would hold a `&mut`, and say the same `Put` of its fields.
-ghost use Rattle.std.specs.Prelude.{◌≡◌, ◌+◌, ◌*◌, ◌≤◌, length};
-ghost use mathlib.Core.List.{map, flatten};
-ghost use Rattle.octets.specs.Octets.{Put};
-ghost use Rattle.h4.specs.Framing.{packets, whole};
-ghost use Rattle.records.specs.Lines.{hex_digit, hex_of, hex_line, digits, done_line};
+// The text of an answer: octets in hex, and lines.
+ghost use Rattle.std.specs.Prelude.{◌≡◌, ◌≤◌, ℕ, take, drop, MatchOption};
+ghost use Rattle.h4.specs.Framing.{whole};
+ghost use Rattle.records.specs.Lines.{hex_digit};
+
+// At most 512 octets.
+#[derive(Clone, Copy)]
+pub struct Text {
+    octets: [u8; 512],
+    len: usize,
+    pub ghost fits: { len ≤ 512 },
+}
+
+impl Text {
+    ghost use Rattle.std.specs.Prelude.{[], ◌++◌, ◌+◌, ◌*◌, length};
+    ghost use mathlib.Core.List.{map, flatten};
+    ghost use Rattle.h4.specs.Framing.{packets};
+    ghost use Rattle.records.specs.Lines.{hex_of, hex_line, digits, done_line};
+    ghost use Rattle.records.specs.Text.{text_of};
+
+    pub(crate) fn new() -> Text
+        ensures { text_of result ≡ [] }
+    {
+        Text {
+            octets: [0; 512],
+            len: 0,
+        }
+    }
+
+    pub fn as_slice(&self) -> &[u8]
+        ensures { result.now ≡ text_of self.now }
+    {
+        &self.octets[..self.len]
+    }
+
+    // These octets behind the text.
+    fn push(&mut self, octets: &[u8])
+        requires { length (text_of self.old) + length octets.now ≤ 512 }
+        ensures { text_of self.new ≡ text_of self.old ++ octets.now }
+    {
+        self.len = octets::put(&mut self.octets, self.len, octets);
+    }
+
+    // Octets in hex, two digits each.
+    fn push_hex(&mut self, octets: &[u8])
+        requires { length (text_of self.old) + 2 * length octets.now ≤ 512 }
+        ensures { text_of self.new ≡ text_of self.old ++ hex_of octets.now }
+    {
+        for x in octets {
+            self.push(&[hex_digit(*x / 16), hex_digit(*x % 16)]);
+        }
+    }
+
+    // The line of one packet.
+    fn push_packet(&mut self, letter: u8, packet: &[u8])
+        requires { length (text_of self.old) + 2 * length packet.now + 3 ≤ 512 }
+        ensures { text_of self.new ≡ text_of self.old ++ hex_line letter packet.now }
+    {
+        self.push(&[letter, b'\t']);
+        self.push_hex(packet);
+        self.push(b"\n");
+    }
+
+    // A line for each whole packet of the octets, in order.
+    pub(crate) fn push_packets(&mut self, letter: u8, octets: &[u8])
+        requires { length (text_of self.old) + 3 * length octets.now ≤ 512 }
+        ensures { text_of self.new ≡ text_of self.old ++ flatten (map (hex_line letter) (packets octets.now)) }
+    {
+        let mut rest = octets;
+        // A step is a packet's length, so it is no `for`.
+        while let Some((packet, behind)) = split_packet(rest) {
+            self.push_packet(letter, packet);
+            rest = behind;
+        }
+    }
+
+    // A number below 100 in decimal digits.
+    fn push_number(&mut self, n: u8)
+        requires { length (text_of self.old) + 2 ≤ 512 }
+        ensures { text_of self.new ≡ text_of self.old ++ digits n }
+    {
+        if n <= 9 {
+            self.push(&[b'0' + n]);
+        } else {
+            self.push(&[b'0' + n / 10, b'0' + n % 10]);
+        }
+    }
+
+    // The line that ends an answer.
+    pub(crate) fn push_done(&mut self, number: u8, used: u8)
+        requires { length (text_of self.old) + 8 ≤ 512 }
+        ensures { text_of self.new ≡ text_of self.old ++ done_line number used }
+    {
+        self.push(b"D\t");
+        self.push_number(number);
+        self.push(b"\t");
+        self.push_number(used);
+        self.push(b"\n");
+    }
+}
 
 // The lower-case digit of a number below 16.
 fn hex_digit(n: u8) -> u8
@@ -14,78 +107,12 @@ fn hex_digit(n: u8) -> u8
     if n <= 9 { b'0' + n } else { b'a' + n - 10 }
 }
 
-// Octets in hex, two digits each, into out from index at; the index after them.
-fn put_hex(octets: &[u8], out: &mut [u8], at: usize) -> usize
-    requires { at + 2 * length octets.now ≤ length out.old }
-    ensures { Put out.old at (hex_of octets.now) result out.new }
+// The packet at the front where all of it is there, and the octets behind it.
+fn split_packet(octets: &[u8]) -> Option<(&[u8], &[u8])>
+    ensures { MatchOption result (whole octets.now ≡ 0) (λ p.
+        (p.0.now ≡ take (whole octets.now) octets.now) × (p.1.now ≡ drop (whole octets.now) octets.now)
+        × (3 ≤ whole octets.now)) }
 {
-    let mut p = at;
-    for x in octets {
-        p = octets::put(out, p, &[hex_digit(*x / 16), hex_digit(*x % 16)]);
-    }
-    p
-}
-
-// The line of one packet, into out from index at; the index after it.
-fn hex_line(letter: u8, octets: &[u8], out: &mut [u8], at: usize) -> usize
-    requires { at + 2 * length octets.now + 3 ≤ length out.old }
-    ensures { Put out.old at (hex_line letter octets.now) result out.new }
-{
-    let at = octets::put(out, at, &[letter, b'\t']);
-    let at = put_hex(octets, out, at);
-    octets::put(out, at, &[b'\n'])
-}
-
-// The length of the packet at the front where all of it is there, else 0.
-fn whole_len(octets: &[u8]) -> usize
-    ensures { result ≡ whole octets.now }
-{
-    // The last two arms are not one, since the proof has no name for what a joined pattern has found.
-    match h4::h4_packet_len(octets) {
-        Ok(Some(n)) => { if n <= octets.len() { n } else { 0 } }
-        Ok(None) => 0,
-        Err(_) => 0,
-    }
-}
-
-// A line for each whole packet of the octets, in order, into out from index at; the index after them.
-pub fn packet_lines(letter: u8, octets: &[u8], out: &mut [u8], at: usize) -> usize
-    requires { at + 3 * length octets.now ≤ length out.old }
-    ensures { Put out.old at (flatten (map (hex_line letter) (packets octets.now))) result out.new }
-{
-    let mut p = at;
-    let mut i = 0;
-    // A step is a packet's length, so it is no `for`.
-    while i < octets.len() {
-        let n = whole_len(&octets[i..]);
-        if n == 0 {
-            return p;
-        }
-        p = hex_line(letter, &octets[i..i + n], out, p);
-        i += n;
-    }
-    p
-}
-
-// A number below 100 in decimal digits, into out from index at; the index after them.
-fn put_digits(n: u8, out: &mut [u8], at: usize) -> usize
-    requires { (n ≤ 99) × (at + 2 ≤ length out.old) }
-    ensures { Put out.old at (digits n) result out.new × (result ≤ at + 2) }
-{
-    if n <= 9 {
-        return octets::put(out, at, &[b'0' + n]);
-    }
-    octets::put(out, at, &[b'0' + n / 10, b'0' + n % 10])
-}
-
-// The line that ends an answer, into out from index at; the index after it.
-pub fn done_line(number: u8, used: usize, out: &mut [u8], at: usize) -> usize
-    requires { (number ≤ 99) × (used ≤ 99) × (at + 8 ≤ length out.old) }
-    ensures { Put out.old at (done_line number used) result out.new }
-{
-    let at = octets::put(out, at, &[b'D', b'\t']);
-    let at = put_digits(number, out, at);
-    let at = octets::put(out, at, &[b'\t']);
-    let at = put_digits(used as u8, out, at);
-    octets::put(out, at, &[b'\n'])
+    let n = h4::h4_packet_len(octets).ok()??;
+    octets.split_at_checked(n)
 }

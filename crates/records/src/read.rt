@@ -1,5 +1,5 @@
-// Reading a line of input: its letter, and then the fields behind it. A tab is neither a digit nor a hex digit, so what is read as a
-// number or a packet up to the line's end is the line's last field.
+// Reading a line of input: its letter, and then the fields behind it. A tab is neither a digit nor a hex digit, so what is read
+// as a number or a packet up to the line's end is the line's last field.
 ghost use Rattle.std.specs.Prelude.{◌≡◌, ◌==◌, List, [], ◌∷◌, ℕ, ◌≤◌, length, position};
 ghost use Rattle.records.specs.Lines.{fields, read_fields, read_line};
 ghost use Rattle.records.specs.Reading.{line_of, digit_of, number_of, first_of, pair_of};
@@ -7,9 +7,8 @@ ghost use Rattle.records.specs.Reading.{line_of, digit_of, number_of, first_of, 
 use crate::{Opening, Record};
 
 // The record of a line, without its newline. A packet's octets go to the front of packet.
-pub fn read_line(line: &[u8], packet: &mut [u8]) -> Option<Record>
-    requires { 1024 ≤ length packet.old }
-    ensures { (line_of result packet.new ≡ read_line line.now) × (length packet.new ≡ length packet.old) }
+pub fn read_line(line: &[u8], packet: &mut [u8; 1024]) -> Option<Record>
+    ensures { line_of result packet.new ≡ read_line line.now }
 {
     if line.len() < 2 || line[1] != b'\t' {
         return None;
@@ -31,9 +30,8 @@ pub fn read_line(line: &[u8], packet: &mut [u8]) -> Option<Record>
 }
 
 // The record of a line of letter `P`, from what stands behind its tab.
-fn read_packet(rest: &[u8], packet: &mut [u8]) -> Option<Record>
-    requires { 1024 ≤ length packet.old }
-    ensures { (line_of result packet.new ≡ read_fields ((80 ∷ []) ∷ fields rest.now)) × (length packet.new ≡ length packet.old) }
+fn read_packet(rest: &[u8], packet: &mut [u8; 1024]) -> Option<Record>
+    ensures { line_of result packet.new ≡ read_fields ((80 ∷ []) ∷ fields rest.now) }
 {
     let n = rest.len() / 2;
     if rest.len() != 2 * n || 1024 < n {

@@ -9,40 +9,36 @@ use Rattle.records.proofs.read.read_line.Goals as goal
 
 pub returns-then-line-lt2 : goal.returns-then-line-lt2
 returns-then-line-lt2 c = elim c.then-line-lt2.branch [
-  | then-line-lt2-via-then-line-lt2 w ↦ (line_short _ (omega arith), refl)
-  | then-line-lt2-via-else-line-lt2+then-line-ne9 w ↦ (line_tabless _ (omega arith) (search rules), refl)
+  | then-line-lt2-via-then-line-lt2 w ↦ line_short _ (omega arith)
+  | then-line-lt2-via-else-line-lt2+then-line-ne9 w ↦ line_tabless _ (omega arith) (search rules)
 ]
 
 pub returns-in-80 : goal.returns-in-80
-returns-in-80 c =
-    let e = c.read_packet.ensures in
-    (e.0 ∙ line_letter _ 80 (omega arith) (omega arith) (omega arith) refl, e.1)
+returns-in-80 c = c.read_packet.ensures ∙ line_letter _ 80 (omega arith) (omega arith) (omega arith) refl
 
 pub returns-in-79 : goal.returns-in-79
 returns-in-79 c =
-    (c.read_opening.ensures c.args.packet.now ∙ line_letter _ 79 (omega arith) (omega arith) (omega arith) refl, refl)
+    c.read_opening.ensures c.args.packet.now ∙ line_letter _ 79 (omega arith) (omega arith) (omega arith) refl
 
 pub returns-in_err-handle-in-84 : goal.returns-in_err-handle-in-84
 returns-in_err-handle-in-84 c =
     rw c.from_residual.ensures
-    (line_pair _ 84 (omega arith) (omega arith) (omega arith) _ refl refl c.in_err-handle-in-84.ensures, refl)
+    (line_pair _ 84 (omega arith) (omega arith) (omega arith) _ refl refl c.in_err-handle-in-84.ensures)
 
 pub returns-in_err-handle-in-67 : goal.returns-in_err-handle-in-67
 returns-in_err-handle-in-67 c =
     rw c.from_residual-in_err-handle-in-67.ensures
-    (line_pair _ 67 (omega arith) (omega arith) (omega arith) _ refl refl c.in_err-handle-in-67.ensures, refl)
+    (line_pair _ 67 (omega arith) (omega arith) (omega arith) _ refl refl c.in_err-handle-in-67.ensures)
 
 pub returns-in_ok-handle-in-84 : goal.returns-in_ok-handle-in-84
 returns-in_ok-handle-in-84 c =
-    (line_pair _ 84 (omega arith) (omega arith) (omega arith) _ refl refl c.in_ok-handle-in-84.ensures, refl)
+    line_pair _ 84 (omega arith) (omega arith) (omega arith) _ refl refl c.in_ok-handle-in-84.ensures
 
 pub returns-in_ok-handle-in-67 : goal.returns-in_ok-handle-in-67
 returns-in_ok-handle-in-67 c =
-    (line_pair _ 67 (omega arith) (omega arith) (omega arith) _ refl refl c.in_ok-handle-in-67.ensures, refl)
+    line_pair _ 67 (omega arith) (omega arith) (omega arith) _ refl refl c.in_ok-handle-in-67.ensures
 
 pub returns-in_default : goal.returns-in_default
-returns-in_default c = (
-  line_other _ _ (omega arith) (omega arith) refl (ne_eqb _ _ (search rules)) (ne_eqb _ _ (search rules))
-      (ne_eqb _ _ (search rules)) (ne_eqb _ _ (search rules)),
-  refl,
-)
+returns-in_default c =
+    line_other _ _ (omega arith) (omega arith) refl (ne_eqb _ _ (search rules)) (ne_eqb _ _ (search rules))
+    (ne_eqb _ _ (search rules)) (ne_eqb _ _ (search rules))

@@ -1,2 +1,0 @@
--- The lemmas of the program `bench`.
-pub mod Stepping
