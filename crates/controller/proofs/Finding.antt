@@ -7,26 +7,10 @@ use native.Mathlib.Omega.{arith}
 use lib.ListN.{replicate}
 use Rattle.profile.specs.declared.ControllerRow.{ControllerRow}
 use Rattle.profile.specs.Profile.{rows_fit, row_bitmap}
-use Rattle.state.specs.State.{Model, view}
-use Rattle.state.specs.Holding.{state_holds}
+use Rattle.state.specs.State.{Model}
 use Rattle.state.specs.declared.Controller.{Controller}
 use Rattle.calls.specs.Calls.{first_no}
 use Rattle.calls.specs.Gives.{Finds, FindsBitmap}
-use Rattle.controller.specs.declared.refusal.Refusal.{Refusal}
-use Rattle.controller.specs.Asked.{number_of, about_state}
-use Rattle.controller.proofs.Asking.{some}
-
-module _ {A : Type 0} {k : ControllerRow} {s : Controller} {sought : Model → A} {none : A} {held : Bool} (same : held ≡ state_holds s k) where
-  -- a refused query
-  pub finds_none : (refusal : Refusal) {number : ℕ} → number ≡ number_of refusal → number_of refusal ≡ about_state k held
-      → Finds k s sought none number none
-  finds_none refusal e asked =
-      rw e (record { asked = rw same at asked; refused = λ p. refl; accepted = λ z. absurd (some refusal z) })
-
-  -- one that is answered
-  pub finds : {answer : A} → 0 ≡ about_state k held → ((size : ℕ) (pool : List ℕ) → answer ≡ sought (view s size pool))
-      → Finds k s sought none 0 answer
-  finds asked found = record { asked = rw same at asked; refused = λ p. absurd (omega arith); accepted = λ z. found }
 
 -- the bit map, where the rows do not fit and where they do
 pub finds_no_bitmap : {opcodes answers bits : List ℕ} → false ≡ rows_fit opcodes answers bits

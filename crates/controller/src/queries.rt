@@ -1,12 +1,15 @@
 // What a user may ask of a controller, and the state that it starts with. A refused query answers false, nothing or 0.
-ghost use Rattle.std.specs.Prelude.{◌≡◌, None, false};
+ghost use Rattle.std.specs.Prelude.{◌≡◌, None, false, IfOk};
 ghost use Rattle.links.specs.Links as links;
 ghost use Rattle.links.specs.Look.{terminating_of};
+ghost use Rattle.state.specs.Holding.{state_holds, StateHolds};
 ghost use Rattle.calls.specs.Gives.{Finds, FindsBitmap, Starts};
 ghost use Rattle.controller.specs.Answers.{terminating_reason};
+ghost use Rattle.controller.specs.Asked.{refusal_number, about_state};
 
 use crate::questions;
-use crate::refusal::{ACCEPTED, Refusal};
+use crate::refusal::{ACCEPTED, Refusal, number_of};
+use links::Links;
 use profile::{ControllerRow, Rows};
 use state::Controller;
 
@@ -54,21 +57,29 @@ pub struct Bitmap {
     pub map: [u8; 64],
 }
 
+// Questions 1 and 3, and what is asked of the links. It is inlined, or the compiler would hand the state on (docs/SPEED.md).
+#[inline(always)]
+fn asked<T: Copy, F: FnOnce(Links) -> T>(
+    profile: ControllerRow,
+    s: Controller,
+    query: F,
+) -> Result<T, Refusal>
+    requires { StateHolds s profile → F.pre query s.links }
+    ensures number { refusal_number result ≡ about_state profile (state_holds s profile) }
+    ensures found { IfOk result (F.post query s.links) }
+{
+    questions::about_state(profile, state::holds(s, profile))?;
+    Ok(query(s.links))
+}
+
 // Whether a link has this handle.
 pub fn wegrulsta_has_connection(profile: ControllerRow, s: Controller, handle: u16) -> Connected
     ensures { Finds profile s (λ m. links.has handle m.links.connections) false result.number result.connected }
 {
-    let held = state::holds(s, profile);
-    if let Err(refusal) = questions::about_state(profile, held) {
-        return Connected {
-            number: refusal.into(),
-            connected: false,
-        };
-    }
-    let connected = links::has(s.links, handle);
+    let found = asked(profile, s, |links| links::has(links, handle));
     Connected {
-        number: ACCEPTED,
-        connected,
+        number: number_of(found),
+        connected: found.unwrap_or(false),
     }
 }
 
@@ -76,17 +87,10 @@ pub fn wegrulsta_has_connection(profile: ControllerRow, s: Controller, handle: u
 pub fn terminating(profile: ControllerRow, s: Controller, handle: u16) -> DisconnectWaits
     ensures { Finds profile s (λ m. terminating_of handle m.links.connections) None result.number result.reason }
 {
-    let held = state::holds(s, profile);
-    if let Err(refusal) = questions::about_state(profile, held) {
-        return DisconnectWaits {
-            number: refusal.into(),
-            reason: None,
-        };
-    }
-    let reason = links::terminating(s.links, handle);
+    let found = asked(profile, s, |links| links::terminating(links, handle));
     DisconnectWaits {
-        number: ACCEPTED,
-        reason,
+        number: number_of(found),
+        reason: found.unwrap_or(None),
     }
 }
 
@@ -105,17 +109,10 @@ pub fn wegrulsta_terminating(profile: ControllerRow, s: Controller, handle: u16)
 pub fn wegrulsta_free_handle(profile: ControllerRow, s: Controller) -> FreeHandle
     ensures { Finds profile s (λ m. links.free_handle m.links.connections) 0 result.number result.handle }
 {
-    let held = state::holds(s, profile);
-    if let Err(refusal) = questions::about_state(profile, held) {
-        return FreeHandle {
-            number: refusal.into(),
-            handle: 0,
-        };
-    }
-    let handle = links::free_handle(s.links);
+    let found = asked(profile, s, |links| links::free_handle(links));
     FreeHandle {
-        number: ACCEPTED,
-        handle,
+        number: number_of(found),
+        handle: found.unwrap_or(0),
     }
 }
 
@@ -123,17 +120,10 @@ pub fn wegrulsta_free_handle(profile: ControllerRow, s: Controller) -> FreeHandl
 pub fn wegrulsta_buffers_in_use(profile: ControllerRow, s: Controller) -> InUse
     ensures { Finds profile s (λ m. links.in_use m.links) 0 result.number result.count }
 {
-    let held = state::holds(s, profile);
-    if let Err(refusal) = questions::about_state(profile, held) {
-        return InUse {
-            number: refusal.into(),
-            count: 0,
-        };
-    }
-    let count = links::buffers_in_use(s.links);
+    let found = asked(profile, s, |links| links::buffers_in_use(links));
     InUse {
-        number: ACCEPTED,
-        count,
+        number: number_of(found),
+        count: found.unwrap_or(0),
     }
 }
 
