@@ -6,7 +6,9 @@ ghost use Rattle.commands.specs.Outcome.{Answers, GivesAny, done};
 ghost use Rattle.commands.specs.Refused.{YieldsAny};
 ghost use Rattle.commands.specs.Privacy.{read_maximum_data_length, read_phy, set_default_phy, set_phy};
 
-use crate::preference::{phy_preference_empty, phy_preference_unsupported, pick_phy};
+use crate::preference::{
+    RECEIVING, SENDING, phy_preference_empty, phy_preference_unsupported, pick_phy, preferred,
+};
 use answers::Answer;
 use commands::{Answered, ErrorCode};
 use hci::status::{SUCCESS, UNKNOWN_CONNECTION};
@@ -82,8 +84,8 @@ pub fn set_phy(s: Controller, profile: ControllerRow, p: &[u8; 7]) -> Answered<L
         return Answered::status(s.links, Err(ErrorCode::UnknownConnection));
     };
     let all = p[2];
-    let tx = pick_phy(profile, all % 2 == 1, p[3], c.tx_phy);
-    let rx = pick_phy(profile, (all >> 1) % 2 == 1, p[4], c.rx_phy);
+    let tx = pick_phy(profile, preferred(all, SENDING, p[3]), c.tx_phy);
+    let rx = pick_phy(profile, preferred(all, RECEIVING, p[4]), c.rx_phy);
     let [low, high] = handle.to_le_bytes();
     let params = [SUCCESS, low, high, tx, rx];
     let status = answers::status(SUCCESS);
