@@ -7,7 +7,7 @@ ghost use Rattle.dispatch.specs.Parts.{rows_of, known_reads, le_reads};
 
 use crate::exactly;
 use answers::Answer;
-use hci::status::{SUCCESS, UNKNOWN_COMMAND};
+use hci::status::SUCCESS;
 use profile::ControllerRow;
 use state::Controller;
 
@@ -50,7 +50,7 @@ fn known_read(s: Controller, profile: ControllerRow, address: [u8; 6], op: u16, 
         0x1003 => known::read_supported_features(profile),
         0x1009 => known::read_public_address(address),
         0x1405 => known::read_rssi(exactly(p), s.links),
-        _ => answers::done(UNKNOWN_COMMAND),
+        _ => unreachable!(),
     }
 }
 
@@ -74,8 +74,7 @@ fn le_read(s: Controller, profile: ControllerRow, random: u64, op: u16, p: &[u8]
         0x2021 => link::parameter_request_negative_reply(s.links, exactly(p)),
         0x2023 => link::read_suggested_data_length(s.settings),
         0x202A => privacy::read_resolving_list_size(profile),
-        0x202B => privacy::read_resolvable_address(),
-        0x202C => privacy::read_resolvable_address(),
+        0x202B | 0x202C => privacy::read_resolvable_address(),
         0x202F => privacy::read_maximum_data_length(profile),
         0x2030 => privacy::read_phy(exactly(p), s.links),
         0x201C => test_and_power::read_supported_states(profile),
@@ -83,6 +82,6 @@ fn le_read(s: Controller, profile: ControllerRow, random: u64, op: u16, p: &[u8]
         0x203B => test_and_power::read_advertising_sets(profile),
         0x204B => test_and_power::read_power_range(profile),
         0x204C => test_and_power::read_path_compensation(s.settings),
-        _ => answers::done(UNKNOWN_COMMAND),
+        _ => unreachable!(),
     }
 }
