@@ -137,7 +137,7 @@ pub fn wegrulsta_row_bitmap(opcodes: &[u16], answers: &[u8], bits: &[u16]) -> Bi
             map: [0; 64],
         };
     };
-    let map = rows.bitmap();
+    let map = profile::row_bitmap(rows.answers, rows.bits);
     Bitmap {
         number: ACCEPTED,
         map,

@@ -8,7 +8,7 @@ ghost use Rattle.profile.specs.Profile.{within_limits};
 
 mod rows;
 
-pub use rows::Rows;
+pub use rows::{Rows, row_bitmap};
 
 // What the controller reports about itself, and how large its buffers and lists are.
 #[repr(C)]

@@ -1,24 +1,24 @@
 // The rows of a profile: how it answers each opcode, and the opcode's bit in the map of supported commands. They are three slices
-// that the caller lends; there are no rows of which question 2 has the answer "no". For `receive` and the controller's calls.
+// that the caller lends, and question 2 makes one struct of them. For `receive` and the controller's calls.
 ghost use Rattle.std.specs.Prelude.{◌≡◌, true, cond, leb, ltb};
 ghost use Rattle.lists.specs.Lists.{all};
 ghost use Rattle.hci.specs.Bits.{with_bit};
-ghost use Rattle.profile.specs.Profile.{rows_fit};
+ghost use Rattle.profile.specs.Profile.{answers_fit, row_bitmap};
 
 use crate::Answering;
 
-// Rows whose slices fit one another.
+// Rows whose opcodes have answers, each at most 2: no more is asked where an opcode is looked up.
 #[derive(Clone, Copy)]
 pub struct Rows<'a> {
     pub opcodes: &'a [u16],
     pub answers: &'a [u8],
     pub bits: &'a [u16],
-    pub ghost fits: { rows_fit opcodes.now answers.now bits.now ≡ true },
+    pub ghost fits: { answers_fit opcodes.now answers.now ≡ true },
 }
 
 impl<'a> Rows<'a> {
     ghost use Rattle.std.specs.Prelude.{is_some, IfSome};
-    ghost use Rattle.profile.specs.Profile.{row_answer, answer_number, row_bitmap};
+    ghost use Rattle.profile.specs.Profile.{rows_fit, row_answer, answer_number};
 
     // Question 2: are the rows' slices equally long, at most 256, and their answers at most 2?
     #[tactic(auto, unfolding(crate::specs::Profile::rows_fit))]
@@ -53,20 +53,20 @@ impl<'a> Rows<'a> {
             _ => Answering::Unknown,
         })
     }
+}
 
-    // The Supported_Commands bit map (Core Vol 4 Part E section 6.27) of the rows that are not unknown.
-    #[tactic(auto, unfolding(crate::specs::Profile::row_bits))]
-    pub fn bitmap(&self) -> [u8; 64]
-        ensures { result ≡ row_bitmap self.now.answers.now self.now.bits.now }
-    {
-        let mut map = [0u8; 64];
-        for (answer, bit) in self.answers.iter().zip(self.bits) {
-            if *answer != 2 {
-                set_row_bit(&mut map, *bit);
-            }
+// The Supported_Commands bit map (Core Vol 4 Part E section 6.27) of the rows that are not unknown, whether the rows fit or not.
+#[tactic(auto, unfolding(crate::specs::Profile::row_bits))]
+pub fn row_bitmap(answers: &[u8], bits: &[u16]) -> [u8; 64]
+    ensures { result ≡ row_bitmap answers.now bits.now }
+{
+    let mut map = [0u8; 64];
+    for (answer, bit) in answers.iter().zip(bits) {
+        if *answer != 2 {
+            set_row_bit(&mut map, *bit);
         }
-        map
     }
+    map
 }
 
 // Whether each answer is at most 2. It is asked with each call, so the loop looks at all of them and takes the greatest:

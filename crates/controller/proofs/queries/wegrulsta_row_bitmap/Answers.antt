@@ -8,4 +8,4 @@ returns-in_default c = rw c.into.ensures (finds_no_bitmap c.in_default.ensures.a
 pub returns : goal.returns
 returns c =
     let same = c.in-Some.ensures.same in
-    finds_bitmap c.in-Some.ensures.asked (rw (same.1, same.2) at c.bitmap-map.ensures)
+    finds_bitmap c.in-Some.ensures.asked (rw (same.1, same.2) at c.row_bitmap-map.ensures)

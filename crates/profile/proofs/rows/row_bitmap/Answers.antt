@@ -1,9 +1,9 @@
--- `Rows::bitmap` meets its contract: where the loop ends, no row is left.
+-- `row_bitmap` meets its contract: where the loop ends, no row is left.
 use mathlib.Core.Logic.{◌⊎◌, inl, inr}
 use Rattle.std.proofs.Common.{◌≡◌, ◌∙◌, ℕ, List, [], ◌∷◌, refl, sym}
 use Rattle.std.proofs.lemmas.Slice.Zip.{either_empty_from_Zip}
 use Rattle.profile.specs.Profile.{row_bits}
-use Rattle.profile.proofs.rows.Rows.bitmap.Goals as goal
+use Rattle.profile.proofs.rows.row_bitmap.Goals as goal
 
 no_rows : (map answers bits : List ℕ) → (answers ≡ []) ⊎ (bits ≡ []) → row_bits map answers bits ≡ map
 unfolding row_bits

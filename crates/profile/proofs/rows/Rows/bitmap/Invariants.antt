@@ -1,8 +1,0 @@
--- `Rows::bitmap`: the rows left give the rest of the map.
-use Rattle.std.proofs.Common.{◌≡◌}
-use Rattle.profile.specs.Profile.{row_bits, row_bitmap}
-use Rattle.profile.proofs.rows.Rows.bitmap.Given as goal
-
-abbrev pub invariant-loop-answer : goal.invariant-loop-answer
-invariant-loop-answer l =
-    row_bitmap l.self.answers.now l.self.bits.now ≡ row_bits l.map l.answer-iterator.a.rest.now l.answer-iterator.b.rest.now
