@@ -42,8 +42,8 @@ pub use refusal::Refusal;
 use state::Controller;
 pub use taking::wegrulsta_take as take_transmit;
 
-// What a call gives that has no buffer: the state after it, and 0 or the number of a refusal. An answer is a struct with a number,
-// and no Result, since C gets it by value; in all answers the state stands first, so that it is copied from where it lies
+// What a call gives that has no buffer: the state after it, and 0 or the number of a refusal. An answer is a struct with a
+// number, and no Result, since C gets it by value; in all answers the state stands first, so that it is copied from where it lies
 // (docs/SPEED.md).
 #[repr(C)]
 #[derive(Clone, Copy)]

@@ -1,8 +1,8 @@
 -- `controller::ending::wegrulsta_remote_disconnect` meets its contract.
 use mathlib.Core.Path.{refl}
 use Rattle.notices.proofs.Telling.{remote_disconnect_tells}
-use Rattle.controller.proofs.Asking.{events_asked}
-use Rattle.controller.proofs.Answering.{gives_refused, can_tell, gives_told}
+use Rattle.controller.proofs.Asking.{counts_fit, events_asked}
+use Rattle.controller.proofs.Answering.{alone, gives_refused, event_fits, event_told}
 use Rattle.controller.proofs.ending.wegrulsta_remote_disconnect.Goals as goal
 
 pub returns-in-Err : goal.returns-in-Err
@@ -11,17 +11,15 @@ returns-in-Err c =
 
 pub remote_disconnect-r-requires : goal.remote_disconnect-r-requires
 remote_disconnect-r-requires c =
-    let yes = events_asked c.args.profile c.args.s c.args.out.now c.holds-held.ensures c.in_default.ensures in
-    (yes.held.links.few_links, yes.held.links.few_waiting)
+    counts_fit (events_asked c.args.profile c.args.s c.args.out.now c.holds-held.ensures c.in_default.ensures)
 
 pub heard-requires : goal.heard-requires
 heard-requires c =
-    let yes = events_asked c.args.profile c.args.s c.args.out.now c.holds-held.ensures c.in_default.ensures in
-    can_tell c.remote_disconnect-r.ensures yes.held (remote_disconnect_tells c.args.handle c.args.reason) yes.room
+    event_fits c.args.profile c.remote_disconnect-r.ensures c.holds-held.ensures c.in_default.ensures
+    (alone (remote_disconnect_tells c.args.handle c.args.reason))
 
 pub returns : goal.returns
 returns c =
-    let yes = events_asked c.args.profile c.args.s c.args.out.now c.holds-held.ensures c.in_default.ensures in
-    rw (c.heard.ensures.number, c.heard.ensures.state)
-    (gives_told c.remote_disconnect-r.ensures yes.held (λ pool opcodes answers bits. (refl, refl, refl))
-    (λ pool opcodes answers bits. rw c.holds-held.ensures at c.in_default.ensures) c.heard.ensures.event)
+    event_told c.args.profile c.remote_disconnect-r.ensures c.holds-held.ensures c.in_default.ensures
+    (λ pool opcodes answers bits. (refl, refl, refl)) (λ pool opcodes answers bits. refl)
+    c.heard.ensures.number c.heard.ensures.state c.heard.ensures.event

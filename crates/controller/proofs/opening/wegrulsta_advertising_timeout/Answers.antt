@@ -1,8 +1,7 @@
 -- `controller::opening::wegrulsta_advertising_timeout` meets its contract.
 use mathlib.Core.Path.{refl}
 use Rattle.notices.proofs.Telling.{advertising_timeout_tells}
-use Rattle.controller.proofs.Asking.{events_asked}
-use Rattle.controller.proofs.Answering.{gives_refused, can_tell, gives_told}
+use Rattle.controller.proofs.Answering.{alone, gives_refused, event_fits, event_told}
 use Rattle.controller.proofs.opening.wegrulsta_advertising_timeout.Goals as goal
 
 pub returns-in-Err : goal.returns-in-Err
@@ -11,12 +10,11 @@ returns-in-Err c =
 
 pub heard-requires : goal.heard-requires
 heard-requires c =
-    let yes = events_asked c.args.profile c.args.s c.args.out.now c.holds-held.ensures c.in_default.ensures in
-    can_tell c.advertising_timeout-r.ensures yes.held advertising_timeout_tells yes.room
+    event_fits c.args.profile c.advertising_timeout-r.ensures c.holds-held.ensures c.in_default.ensures
+    (alone advertising_timeout_tells)
 
 pub returns : goal.returns
 returns c =
-    let yes = events_asked c.args.profile c.args.s c.args.out.now c.holds-held.ensures c.in_default.ensures in
-    rw (c.heard.ensures.number, c.heard.ensures.state)
-    (gives_told c.advertising_timeout-r.ensures yes.held (λ pool opcodes answers bits. (refl, refl, refl))
-    (λ pool opcodes answers bits. rw c.holds-held.ensures at c.in_default.ensures) c.heard.ensures.event)
+    event_told c.args.profile c.advertising_timeout-r.ensures c.holds-held.ensures c.in_default.ensures
+    (λ pool opcodes answers bits. (refl, refl, refl)) (λ pool opcodes answers bits. refl)
+    c.heard.ensures.number c.heard.ensures.state c.heard.ensures.event

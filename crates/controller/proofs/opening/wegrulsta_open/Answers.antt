@@ -8,7 +8,7 @@ use Rattle.state.specs.Holding.{state_holds}
 use Rattle.calls.specs.Calls.{first_no}
 use Rattle.controller.specs.declared.refusal.Refusal.TheVariants.{Handle}
 use Rattle.controller.specs.Asked.{question}
-use Rattle.controller.proofs.Asking.{more_refused, state_asked}
+use Rattle.controller.proofs.Asking.{more_refused, state_asked, counts_fit}
 use Rattle.controller.proofs.Answering.{gives_refused, gives_silent}
 use Rattle.controller.proofs.opening.wegrulsta_open.Goals as goal
 
@@ -37,7 +37,7 @@ returns-then-not-can_open c =
 pub open_connection-r-requires : goal.open_connection-r-requires
 open_connection-r-requires c =
     let yes = state_asked c.args.profile c.args.s c.holds-held.ensures c.in_default.ensures in
-    ((yes.held.links.few_links, yes.held.links.few_waiting), sym c.can_open.ensures ∙ c.if-not-can_open.false)
+    (counts_fit yes, sym c.can_open.ensures ∙ c.if-not-can_open.false)
 
 pub returns : goal.returns
 unfolding first_no

@@ -7,7 +7,8 @@ returns-in-Err c = take_not c.holds-held.ensures c.in-Err.refusal c.in-Err.ensur
 
 pub take-requires : goal.take-requires
 take-requires c =
-    rw (c.from-size.ensures, c.from-places.ensures) (take_fits c.args.profile c.args.s c.args.pool.now c.holds-held.ensures c.in_default.ensures)
+    rw (c.from-size.ensures, c.from-places.ensures)
+    (take_fits c.args.profile c.args.s c.args.pool.now c.holds-held.ensures c.in_default.ensures)
 
 pub returns-in_default-take : goal.returns-in_default-take
 returns-in_default-take c =
