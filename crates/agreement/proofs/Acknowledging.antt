@@ -42,7 +42,8 @@ behind_fed code params h =
     (λ c. rw (eqb-true code 0x59 (rw (a, b, c) at h)))))
 
 -- an event with nothing behind it, or one that may stand there
-first_fed : (code : ℕ) (params then : List ℕ) → Follows then → events_fed (event code params ++ then) ≡ event_fed (event code params)
+first_fed : (code : ℕ) (params then : List ℕ) → Follows then
+    → events_fed (event code params ++ then) ≡ event_fed (event code params)
 first_fed code params then (inl e) = rw (e, append-nil params) (fed_one code params)
 first_fed code params then (inr o) =
     rw o.same (fed_two code params o.code o.params)

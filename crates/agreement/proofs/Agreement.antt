@@ -9,7 +9,8 @@ use Rattle.lists.proofs.Chunks.{length_chunks}
 use Rattle.state.specs.State.{Model}
 use Rattle.state.specs.Holding.{place_size}
 use Rattle.calls.specs.Packets.{Profile}
-use Rattle.calls.specs.Calls.{Call, on_packet, take_transmit, open_connection, completed, drop_in_flight, accept_connection, peer_update, request_ltk, complete_disconnect, remote_disconnect, advertising_timeout, Held, held}
+use Rattle.calls.specs.Calls.{Call, on_packet, take_transmit, open_connection, completed, drop_in_flight, accept_connection}
+use Rattle.calls.specs.Calls.{peer_update, request_ltk, complete_disconnect, remote_disconnect, advertising_timeout, Held, held}
 use Rattle.calls.specs.Gives.{Answer, Gives}
 use Rattle.credits.specs.Steps as steps
 use Rattle.credits.proofs.Credits.{credits, state_of}
@@ -17,7 +18,9 @@ use Rattle.agreement.specs.Agreement.{TypedProfile, Typed, Called, buffers_of, F
 use Rattle.agreement.proofs.Rules.{unmasked, Good, FollowsRule}
 use Rattle.agreement.proofs.ByDefinition.{seen}
 use Rattle.agreement.proofs.PacketFollows.{packet_follows}
-use Rattle.agreement.proofs.NoticeFollows.{take_follows, open_follows, accept_follows, update_follows, key_follows, timeout_follows, complete_follows, discard_follows, acknowledged_follows, remote_follows}
+use Rattle.agreement.proofs.NoticeFollows.{take_follows, open_follows, accept_follows, update_follows, key_follows}
+use Rattle.agreement.proofs.NoticeFollows.{timeout_follows, complete_follows, discard_follows, acknowledged_follows}
+use Rattle.agreement.proofs.NoticeFollows.{remote_follows}
 
 -- the filter lists of a state that holds together
 filters_hold : (g : Profile) (s : Held) → Good g s → FiltersHold g s

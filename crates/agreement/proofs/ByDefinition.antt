@@ -28,7 +28,8 @@ answered c octets m = record { accepted = true; opened = opens_link c; events = 
 -- what the contract says of an accepted call is what the definitions say
 pub by_definition : (g : Profile) (c : Call) {s t : Held} {a : Answer} → Gives g c s t a → a.number ≡ 0 → (octets : List ℕ)
     → event_octets c a ≡ octets
-    → steps.Step (limits_of g) (call_fed g c) (seen (model_of g s)) (seen (reply_to g c (model_of g s)).state) (answered c octets (model_of g s))
+    → steps.Step (limits_of g) (call_fed g c) (seen (model_of g s)) (seen (reply_to g c (model_of g s)).state)
+    (answered c octets (model_of g s))
     → FollowsRule g c s t a
 by_definition g c {s} {t} {a} x z octets e step =
     let y = x.accepted z in

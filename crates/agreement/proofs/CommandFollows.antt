@@ -62,7 +62,8 @@ opcode_word p h =
 
 -- ---- what is heard of a command that is neither Reset nor Set Event Mask answered with status 0
 
-nothing_heard : (form : Form) (op : ℕ) (octets : List ℕ) → (op ≡ 0x0C03 → octet octets 0 ≡ 0 → ⊥) → (op ≡ 0x0C01 → octet octets 0 ≡ 0 → ⊥)
+nothing_heard : (form : Form) (op : ℕ) (octets : List ℕ) → (op ≡ 0x0C03 → octet octets 0 ≡ 0 → ⊥)
+    → (op ≡ 0x0C01 → octet octets 0 ≡ 0 → ⊥)
     → ack_fed form op octets ≡ []
 nothing_heard Complete op octets r m =
     let zero = eqb (octet octets 0) 0 in
@@ -80,7 +81,8 @@ nothing_heard Silent op octets r m = refl
 
 -- ---- the buffers and the mask that a command leaves
 
-buffers_left : {sets : Bool} {m n : Model} {a : AnswerModel} → Leaves sets m (record { answer = a; state = n }) → buffers_of n ≡ buffers_of m
+buffers_left : {sets : Bool} {m n : Model} {a : AnswerModel} → Leaves sets m (record { answer = a; state = n })
+    → buffers_of n ≡ buffers_of m
 buffers_left l = rw (l.handles, l.queue, l.flying)
 
 -- bit 4 of eight octets is bit 4 of the first
@@ -96,7 +98,8 @@ abbrev replied : Given → ℕ → ℕ → Model → Reply
 replied i answer op m = reply (whole.command_octets i answer op m) (whole.command i answer op m).state
 
 -- what is heard of status 0 alone
-done_fed : (num op : ℕ) {a : AnswerModel} → a ≡ done 0 → op < 0x10000 → events_fed (octets_of num op a) ≡ ack_fed Complete op (0 ∷ [])
+done_fed : (num op : ℕ) {a : AnswerModel} → a ≡ done 0 → op < 0x10000
+    → events_fed (octets_of num op a) ≡ ack_fed Complete op (0 ∷ [])
 done_fed num op e small = rw e (answer_fed_lem num op (done 0) small (inl refl))
 
 sets_mask : (i : Given) (answer op : ℕ) → answer ≡ 0 → op ≡ 0x0C01 → length i.params ≡ 8 → sets_event_mask i answer op ≡ true
@@ -120,7 +123,8 @@ module _ (g : Profile) (q : book.Packet) (i : Given) (m : Model) where
       rw (zero, same) (steps.Step.mask bit (ap book.Call.packet e) (rw (kept, told))
       (ap steps.events (done_fed i.profile.num_command_packets 0x0C01 does.0 (omega arith))))
 
-  pass_follows : Shaped i → (answer op : ℕ) → answer ≤ 3 → op < 0x10000 → (IsReset i answer op → ⊥) → sets_event_mask i answer op ≡ false
+  pass_follows : Shaped i → (answer op : ℕ) → answer ≤ 3 → op < 0x10000 → (IsReset i answer op → ⊥)
+      → sets_event_mask i answer op ≡ false
       → steps.may_pass (book.Call.packet q) ≡ true → ReplyFollows g q m (replied i answer op m)
   pass_follows shaped answer op most small other none may =
       let o = whole.command i answer op m in
@@ -181,7 +185,8 @@ module _ (g : Profile) (typed : TypedProfile g.controller) (fit : answers_fit g.
       (λ r. true≢false (sym (rw (eq-eqb answer 0 r.0, eq-eqb op 0x0C03 r.1, eq-eqb n 0 r.2)) ∙ e))
       f (may_pass_lem c)))
 
-  read_follows : (r : Result Command ReadError) → WordOpcode r → ReplyFollows g (command_fed r g p) m (by_command r g address random p m)
+  read_follows : (r : Result Command ReadError) → WordOpcode r
+      → ReplyFollows g (command_fed r g p) m (by_command r g address random p m)
   read_follows (Ok c) small = whole_follows c small
   read_follows (Err ShortHeader) small = steps.Step.pass refl refl (rw fed_nothing)
   read_follows (Err OtherKind) small = steps.Step.pass refl refl (rw fed_nothing)

@@ -41,7 +41,8 @@ left g r octets m =
     (with_counters (count_packet m.counters) (with_links (enqueued (header_of r).handle octets m.links) m))
     (discarded m)
 
-read_follows : (g : Profile) (r : Result Acl ReadError) (octets : List ℕ) (m : Model) → ReplyFollows g (data_fed r) m (reply [] (left g r octets m))
+read_follows : (g : Profile) (r : Result Acl ReadError) (octets : List ℕ) (m : Model)
+    → ReplyFollows g (data_fed r) m (reply [] (left g r octets m))
 unfolding left
 read_follows g (Ok d) octets m =
     let e = accepts_fits g d m in

@@ -31,7 +31,8 @@ use Rattle.calls.specs.Packets.{Profile, data_packet, queues}
 use Rattle.calls.specs.Packets as packets
 use Rattle.calls.specs.Calls.{Call, Held, held, model_of, first_no, questions, reply_to, taken_by}
 use Rattle.calls.specs.Gives.{Answer, Refused, Starts, PoolLeft}
-use Rattle.credits.specs.Credits.{blank, unacknowledged, noted, heard, heard_all, book, Chained, last_of, book_after, Premises, NothingDropped}
+use Rattle.credits.specs.Credits.{blank, unacknowledged, noted, heard, heard_all, book, Chained, last_of, book_after, Premises}
+use Rattle.credits.specs.Credits.{NothingDropped}
 use Rattle.credits.proofs.Example as fed
 use Rattle.h4.specs.Framing.{by_indicator, packet_length, whole, packets_up_to, packets}
 use Rattle.agreement.specs.Agreement.{reports, Typed, TypedProfile, Called, limits_of, reading}
@@ -41,8 +42,8 @@ use Rattle.agreement.specs.Example.{bench_profile, start, pool, run}
 
 -- ---- one call
 
--- what the contract of an accepted call fixes, all of which computes: the number, the octets in the buffer and whether they fit it,
--- how many packets, the state with what waits in the pool, and that it holds together
+-- what the contract of an accepted call fixes, all of which computes: the number, the octets in the buffer and whether they fit
+-- it, how many packets, the state with what waits in the pool, and that it holds together
 record Fixed : Type 0 where
   number : ℕ
   fits : Bool
@@ -87,7 +88,8 @@ made {g} {c} {s} {t} {a} typed accepted same left = record {
     accepted = λ e. record {
       viewed = ap (λ (x : Fixed). x.model) same;
       written = record {
-        room = leb-true (0 + length (reply_to g c (model_of g s)).octets) (length a.before) (sym (ap (λ (x : Fixed). x.fits) same));
+        room = leb-true (0 + length (reply_to g c (model_of g s)).octets) (length a.before)
+            (sym (ap (λ (x : Fixed). x.fits) same));
         next = ap (λ (x : Fixed). x.written) same;
         leaves = ap (λ (x : Fixed). x.after) same;
       };
@@ -114,7 +116,8 @@ infixr 20 ◌and◌
 -- ---- the contracts allow the run
 pub run_chained : Chained (Called bench_profile) (held start pool) run
 unfolding first_at any all keep taken leaving update_first distinct_by chunks splice flatten parse_command parse_acl pairs
-    within_limits rows_fit links_hold accept_holds resolving_holds advertising_holds settings_hold own_parts_hold state_holds first_no
+    within_limits rows_fit links_hold accept_holds resolving_holds advertising_holds settings_hold own_parts_hold state_holds
+    first_no
     ended opened_last enqueued taken_from after_taking settled changed connection_of remember le_meta_event connection_failed
     notices.open_connection notices.connection_complete notices.accept_connection notices.peer_update notices.request_ltk
     notices.advertising_timeout notices.completed notices.drop_in_flight notices.remote_disconnect notices.complete_disconnect
@@ -177,5 +180,6 @@ run_drops_nothing = ((demand_3 bench_profile bench_typed start start_starts pool
 
 -- the run does not stop inside the pair of calls, so the host counts the one packet that is in use
 pub run_count : unacknowledged (book_after (reading bench_profile) blank run) ≡ 1
-unfolding last_of book_after book noted heard_all heard parse_acl by_indicator packet_length whole packets_up_to packets reports flatten
+unfolding last_of book_after book noted heard_all heard parse_acl by_indicator packet_length whole packets_up_to packets reports
+    flatten
 run_count = ((demand_3 bench_profile bench_typed start start_starts pool).credits run run_chained run_premises).1 refl

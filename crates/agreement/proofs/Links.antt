@@ -12,7 +12,8 @@ use Rattle.lists.proofs.Filter.{keep_map}
 use Rattle.lists.proofs.Update.{map_update}
 use Rattle.lists.proofs.Taking.{taken_map, leaving_map}
 use Rattle.links.specs.declared.Connection.{Connection}
-use Rattle.links.specs.Links.{Model, has_handle, packet_for, has, can_open, in_use, ended, opened_last, enqueued, taken_from, after_taking, settled, changed}
+use Rattle.links.specs.Links.{Model, has_handle, packet_for, has, can_open, in_use, ended, opened_last, enqueued, taken_from}
+use Rattle.links.specs.Links.{after_taking, settled, changed}
 use Rattle.links.specs.Fields.{with_parameters, with_ltk_requested}
 use Rattle.links.specs.Holding.{handle_of}
 use Rattle.credits.specs.Credits as credits
@@ -84,5 +85,6 @@ pub parameters_follow : (h interval latency timeout : ℕ) (m : Model)
     → buffers_in (changed h (with_parameters interval latency timeout) m) ≡ buffers_in m
 parameters_follow h interval latency timeout = changed_follows h (with_parameters interval latency timeout) (λ c. refl)
 
-pub requested_follows : (h : ℕ) (requested : ℕ) (m : Model) → buffers_in (changed h (with_ltk_requested requested) m) ≡ buffers_in m
+pub requested_follows : (h : ℕ) (requested : ℕ) (m : Model)
+    → buffers_in (changed h (with_ltk_requested requested) m) ≡ buffers_in m
 requested_follows h requested = changed_follows h (with_ltk_requested requested) (λ c. refl)

@@ -1,5 +1,5 @@
--- Each accepted call other than a packet from the host follows a rule of credits: the link's notices, and a take. For the proof of
--- demand 3.
+-- Each accepted call other than a packet from the host follows a rule of credits: the link's notices, and a take. For the proof
+-- of demand 3.
 use Prim.Native.Nat.{ℕ, ◌+◌, ◌-◌, ◌*◌, ◌/◌, ◌%◌}
 use mathlib.Core.Path.{◌≡◌, refl, sym, ap, ◌∙◌}
 use mathlib.Core.Bool.{Bool, true, false, cond}
@@ -18,7 +18,8 @@ use Rattle.state.specs.State.{Model}
 use Rattle.commands.specs.Following.{event_if, enabled_by}
 use Rattle.commands.specs.Outcome.{Outcome, outcome}
 use Rattle.commands.specs.Parts.{with_links}
-use Rattle.notices.specs.Notices.{tells, open_connection, accept_connection, peer_update, request_ltk, advertising_timeout, drop_in_flight, completed, disconnected, remote_disconnect, complete_disconnect}
+use Rattle.notices.specs.Notices.{tells, open_connection, accept_connection, peer_update, request_ltk, advertising_timeout}
+use Rattle.notices.specs.Notices.{drop_in_flight, completed, disconnected, remote_disconnect, complete_disconnect}
 use Rattle.notices.specs.Tells.{AtMostOne, Tells}
 use Rattle.notices.proofs.Telling.{accept_connection_tells, peer_update_tells, request_ltk_tells, advertising_timeout_tells}
 use Rattle.calls.specs.Packets.{Profile}
@@ -31,7 +32,8 @@ use Rattle.credits.specs.Steps as steps
 use Rattle.agreement.specs.Agreement.{events_fed, reports, Word, Typed, buffers_of, limits_of}
 use Rattle.agreement.proofs.Rules.{FollowsRule}
 use Rattle.agreement.proofs.Splitting.{fed_nothing, fed_one}
-use Rattle.agreement.proofs.Links.{has_handle_lem, can_open_lem, given_follows, ended_follows, opened_follows, taken_follows, settled_follows, parameters_follow, requested_follows}
+use Rattle.agreement.proofs.Links.{has_handle_lem, can_open_lem, given_follows, ended_follows, opened_follows, taken_follows}
+use Rattle.agreement.proofs.Links.{settled_follows, parameters_follow, requested_follows}
 use Rattle.agreement.proofs.ByDefinition.{seen, answered, by_definition, by_events}
 
 -- ---- what the book reads of a notice's events
@@ -75,7 +77,8 @@ end_read h reason false p = fed_nothing
 -- an outcome of a state m follows a rule; `opens` says whether it opens a link
 abbrev Rule : Profile → book.Call → Bool → Model → Outcome → Type 0
 Rule g c opens m o =
-    steps.Step (limits_of g) c (seen m) (seen o.state) (record { accepted = true; opened = opens; events = events_fed (told o); taken = 0 })
+    steps.Step (limits_of g) c (seen m) (seen o.state)
+    (record { accepted = true; opened = opens; events = events_fed (told o); taken = 0 })
 
 -- the same answer, with the events read
 heard : (opens : Bool) (o : Outcome) {es : List book.Event} → events_fed (told o) ≡ es
@@ -140,7 +143,8 @@ module _ (g : Profile) (m : Model) where
       let none : m.links.in_flight ≡ m.links.in_flight - n = omega (arith, eqb-true n 0 e) in
       rw e
       (steps.Step.complete h n refl
-      (ap (λ (k : ℕ). steps.at (record { handles = (buffers_of m).handles; waiting = (buffers_of m).waiting; in_flight = k }) (seen m)) none)
+      (ap (λ (k : ℕ). steps.at (record { handles = (buffers_of m).handles; waiting = (buffers_of m).waiting; in_flight = k })
+      (seen m)) none)
       (rw e (heard false (outcome silent m) fed_nothing))))
       (λ e.
       rw e

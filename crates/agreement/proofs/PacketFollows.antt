@@ -43,10 +43,12 @@ reply_follows g typed fit address six random p octets m =
     (λ one. rw (eqb-true (octet p 0) 0x01 one) (command_follows g typed fit address six random p m octets))
     (λ one. rw one (cases (eqb (octet p 0) 0x02)
     (λ two. rw two (data_follows g p m))
-    (λ two. rw two (steps.Step.pass (ap (λ (q : book.Packet). steps.may_pass (book.Call.packet q)) (no_command g p one)) refl (rw fed_nothing)))))
+    (λ two. rw two (steps.Step.pass (ap (λ (q : book.Packet). steps.may_pass (book.Call.packet q)) (no_command g p one)) refl
+    (rw fed_nothing)))))
 
 -- the call, whose second question was about the rows
-pub packet_follows : (g : Profile) → TypedProfile g.controller → (address : List ℕ) (random : ℕ) (p : List ℕ) {s t : Held} {a : Answer}
+pub packet_follows : (g : Profile) → TypedProfile g.controller
+    → (address : List ℕ) (random : ℕ) (p : List ℕ) {s t : Held} {a : Answer}
     → Typed (on_packet address random p) → Good g s → Gives g (on_packet address random p) s t a → a.number ≡ 0
     → FollowsRule g (on_packet address random p) s t a
 packet_follows g typed address random p {s} {t} {a} args good gives zero =

@@ -10,7 +10,8 @@ use Rattle.credits.specs.Credits as book
 use Rattle.agreement.specs.Agreement.{event_fed, events_fed}
 
 -- whole packets end to end are read one by one
-fed_packets : (octets : List ℕ) (ps : List (List ℕ)) → ArePackets ps → flatten ps ≡ octets → events_fed octets ≡ flatten (map event_fed ps)
+fed_packets : (octets : List ℕ) (ps : List (List ℕ)) → ArePackets ps → flatten ps ≡ octets
+    → events_fed octets ≡ flatten (map event_fed ps)
 fed_packets octets ps are same =
     ap (λ (l : List (List ℕ)). flatten (map event_fed l)) (ap packets (sym same) ∙ packets_flattened ps are)
 
@@ -33,5 +34,6 @@ unfolding flatten
 fed_two code params code' params' =
     let e : List ℕ = event code params in
     let f : List ℕ = event code' params' in
-    fed_packets (e ++ f) (e ∷ f ∷ []) (event_packet code params, (event_packet code' params', tt)) (ap (λ (r : List ℕ). e ++ r) (append-nil f))
+    fed_packets (e ++ f) (e ∷ f ∷ []) (event_packet code params, (event_packet code' params', tt))
+    (ap (λ (r : List ℕ). e ++ r) (append-nil f))
     ∙ ap (λ (r : List book.Event). event_fed e ++ r) (append-nil (event_fed f))

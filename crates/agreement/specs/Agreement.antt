@@ -1,8 +1,9 @@
 -- Demand 3 for the controller's calls: what the host's book is fed of a call, and the claim, `Demand3`, for every list of calls.
--- `demand_3` in proofs/Agreement.antt proves it. For the insurer's engineer; docs/PROOF.md says it in words. Comments in quotation
--- marks are sentences of documents 00 and 01. The book, the premises and `CreditsHold` are in `Rattle.credits.specs.Credits`, what a
--- call gives in `Rattle.calls.specs.Gives`.
-use Rattle.std.specs.Prelude.{◌≡◌, ℕ, zero, suc, ◌+◌, ◌≤◌, ◌<◌, Result, Ok, Err, Bool, true, false, cond, ◌&&◌, eqb, ltb, take, length}
+-- `demand_3` in proofs/Agreement.antt proves it. For the insurer's engineer; docs/PROOF.md says it in words. Comments in
+-- quotation marks are sentences of documents 00 and 01. The book, the premises and `CreditsHold` are in
+-- `Rattle.credits.specs.Credits`, what a call gives in `Rattle.calls.specs.Gives`.
+use Rattle.std.specs.Prelude.{◌≡◌, ℕ, zero, suc, ◌+◌, ◌≤◌, ◌<◌, Result, Ok, Err, Bool, true, false, cond, ◌&&◌, eqb, ltb, take}
+use Rattle.std.specs.Prelude.{length}
 use mathlib.Core.List.{List, [], ◌∷◌, map, flatten}
 use Rattle.octets.specs.Octets.{octet, word}
 use Rattle.lists.specs.Lists.{all}
@@ -20,7 +21,9 @@ use Rattle.state.specs.State.{Model}
 use Rattle.state.specs.declared.Controller.{Controller}
 use Rattle.commands.specs.Following.{enabled_by}
 use Rattle.calls.specs.Packets.{Profile}
-use Rattle.calls.specs.Calls.{Call, on_packet, take_transmit, open_connection, completed, drop_in_flight, accept_connection, peer_update, request_ltk, complete_disconnect, remote_disconnect, advertising_timeout, Held, held, model_of}
+use Rattle.calls.specs.Calls.{Call, on_packet, take_transmit, open_connection, completed, drop_in_flight, accept_connection}
+use Rattle.calls.specs.Calls.{peer_update, request_ltk, complete_disconnect, remote_disconnect, advertising_timeout, Held, held}
+use Rattle.calls.specs.Calls.{model_of}
 use Rattle.calls.specs.Gives.{Answer, Gives, Starts}
 use Rattle.credits.specs.Credits.{Buffers, Reading, CreditsHold}
 use Rattle.credits.specs.Credits as book
@@ -181,10 +184,10 @@ limits_of g = record { acl_len = g.controller.acl_len; acl_count = g.controller.
 abbrev pub reading : Profile → Reading Call Held Answer
 reading g = record { call = call_fed g; answer = answer_fed; buffers = λ s. buffers_of (model_of g s) }
 
--- Demand 3, "a single claim about a whole list of calls, [..] all under one profile and its rows, refused ones too. The first gets
--- the default state and a pool of any octets". `CreditsHold` has both halves, for every list: whatever the calls carry, buffers,
--- handles and the filter lists stay within their bounds; and while host and link keep their premises no data packet is dropped
--- and the host's count equals the buffers in use.
+-- Demand 3, "a single claim about a whole list of calls, [..] all under one profile and its rows, refused ones too. The first
+-- gets the default state and a pool of any octets". `CreditsHold` has both halves, for every list: whatever the calls carry,
+-- buffers, handles and the filter lists stay within their bounds; and while host and link keep their premises no data packet is
+-- dropped and the host's count equals the buffers in use.
 abbrev pub Demand3 : Type 0
 Demand3 =
     (g : Profile) → TypedProfile g.controller → (s : Controller) → Starts s → (pool : List ℕ)

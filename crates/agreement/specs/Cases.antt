@@ -27,4 +27,5 @@ pub record MarkedCases : Type 0 where
   -- dropped and changes nothing else
   pub third_packet : (g : Profile) (address : List ℕ) (random : ℕ) → g.controller.acl_len ≡ 27 → g.controller.acl_count ≡ 2
       → (in_use (after_two g address random).links ≡ 2)
-      × (reply_to g (on_packet address random (data_for1 0xCC)) (after_two g address random) ≡ reply [] (discarded (after_two g address random)))
+      × (reply_to g (on_packet address random (data_for1 0xCC)) (after_two g address random)
+      ≡ reply [] (discarded (after_two g address random)))

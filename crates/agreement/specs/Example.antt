@@ -10,7 +10,8 @@ use Rattle.links.specs.declared.Waiting.{Waiting}
 use Rattle.state.specs.State.{default_settings, default_advertising, default_scanning}
 use Rattle.state.specs.declared.Controller.{Controller}
 use Rattle.calls.specs.Packets.{Profile}
-use Rattle.calls.specs.Calls.{Call, on_packet, take_transmit, open_connection, completed, drop_in_flight, accept_connection, peer_update, request_ltk, complete_disconnect, remote_disconnect, advertising_timeout, Held, held}
+use Rattle.calls.specs.Calls.{Call, on_packet, take_transmit, open_connection, completed, drop_in_flight, accept_connection}
+use Rattle.calls.specs.Calls.{peer_update, request_ltk, complete_disconnect, remote_disconnect, advertising_timeout, Held, held}
 use Rattle.calls.specs.Gives.{Answer, plain, events, packets, profile_of}
 use Rattle.credits.specs.Credits.{Made}
 use Rattle.bench_profile.specs.Bench.{bench_controller}

@@ -22,7 +22,9 @@ use Rattle.state.specs.State.{Model}
 use Rattle.state.specs.Holding.{place_size}
 use Rattle.state.proofs.Holding.{both, state_tested}
 use Rattle.calls.specs.Packets.{Profile, flags_served, accepts, header_of, stored, queues}
-use Rattle.calls.specs.Calls.{Call, on_packet, take_transmit, open_connection, completed, drop_in_flight, accept_connection, peer_update, request_ltk, complete_disconnect, remote_disconnect, advertising_timeout, Held, model_of, first_no, questions_of, questions, reply_to, taken_by}
+use Rattle.calls.specs.Calls.{Call, on_packet, take_transmit, open_connection, completed, drop_in_flight, accept_connection}
+use Rattle.calls.specs.Calls.{peer_update, request_ltk, complete_disconnect, remote_disconnect, advertising_timeout, Held}
+use Rattle.calls.specs.Calls.{model_of, first_no, questions_of, questions, reply_to, taken_by}
 use Rattle.calls.specs.Gives.{Answer, Refused, PoolAfter, PoolLeft, Accepted, Gives}
 use Rattle.calls.specs.Unseen.{Alike, Unseen, StartsAlike}
 use Rattle.calls.proofs.Questions.{all_yes}

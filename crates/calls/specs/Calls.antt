@@ -21,7 +21,8 @@ pub data Call : Type 0 where
   open_connection : ℕ → ℕ → ℕ → ℕ → Call  -- handle, interval, latency, timeout
   completed : ℕ → ℕ → Call  -- handle, count
   drop_in_flight : ℕ → Call  -- count
-  accept_connection : ℕ → Bool → List ℕ → ℕ → ℕ → ℕ → ℕ → Call  -- handle, the peer's address random and address, interval, latency, timeout, clock accuracy
+  -- handle, the peer's address random and address, interval, latency, timeout, clock accuracy
+  accept_connection : ℕ → Bool → List ℕ → ℕ → ℕ → ℕ → ℕ → Call
   peer_update : ℕ → ℕ → ℕ → ℕ → Call  -- handle, interval, latency, timeout
   request_ltk : ℕ → List ℕ → ℕ → Call  -- handle, random number, diversifier
   complete_disconnect : ℕ → Call  -- handle
@@ -82,8 +83,10 @@ packet_room h most m room = record { number = 7; yes = leb (length (taken_octets
 -- the questions of a call, in order: those about things it takes. `holds` answers question 3, `pool` is how many octets the pool
 -- has, `room` how many the lent buffer has
 abbrev pub questions_of : Profile → Call → Bool → ℕ → Model → ℕ → List Question
-questions_of g (on_packet address random p) holds pool m room = limits g ∷ rows g ∷ together holds ∷ pool_room g pool ∷ event_room room ∷ []
-questions_of g (take_transmit h most) holds pool m room = limits g ∷ together holds ∷ pool_room g pool ∷ packet_room h most m room ∷ []
+questions_of g (on_packet address random p) holds pool m room =
+    limits g ∷ rows g ∷ together holds ∷ pool_room g pool ∷ event_room room ∷ []
+questions_of g (take_transmit h most) holds pool m room =
+    limits g ∷ together holds ∷ pool_room g pool ∷ packet_room h most m room ∷ []
 questions_of g (open_connection h interval latency timeout) holds pool m room = limits g ∷ together holds ∷ link_room h m ∷ []
 questions_of g (completed h count) holds pool m room = limits g ∷ together holds ∷ event_room room ∷ []
 questions_of g (drop_in_flight count) holds pool m room = limits g ∷ together holds ∷ []

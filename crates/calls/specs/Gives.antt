@@ -12,7 +12,9 @@ use Rattle.state.specs.State.{Model, view, default_model}
 use Rattle.state.specs.Holding.{state_holds, StateHolds, place_size}
 use Rattle.state.specs.declared.Controller.{Controller}
 use Rattle.calls.specs.Packets.{Profile, queues, stored}
-use Rattle.calls.specs.Calls.{Call, on_packet, take_transmit, open_connection, completed, drop_in_flight, accept_connection, peer_update, request_ltk, complete_disconnect, remote_disconnect, advertising_timeout, Held, held, model_of, first_no, limits, together, questions, reply_to, taken_by}
+use Rattle.calls.specs.Calls.{Call, on_packet, take_transmit, open_connection, completed, drop_in_flight, accept_connection}
+use Rattle.calls.specs.Calls.{peer_update, request_ltk, complete_disconnect, remote_disconnect, advertising_timeout, Held, held}
+use Rattle.calls.specs.Calls.{model_of, first_no, limits, together, questions, reply_to, taken_by}
 
 -- What a call answers: its number, 0 where it is accepted; how many octets it wrote to the front of the lent buffer and how many
 -- packets it took; the buffer as it came and as it was left, both [] for a call without one.
@@ -104,7 +106,8 @@ GivesAnyPool k c s t a = (pool : List ℕ) → GivesAnyRows k c (held s pool) (h
 -- ---- the queries and the default state
 
 -- what is asked of a state, with questions 1 and 3; `none` is the answer of a refused query
-pub record Finds {A : Type 0} (k : ControllerRow) (s : Controller) (sought : Model → A) (none : A) (number : ℕ) (answer : A) : Type 0 where
+pub record Finds {A : Type 0} (k : ControllerRow) (s : Controller) (sought : Model → A) (none : A) (number : ℕ) (answer : A)
+    : Type 0 where
   pub asked : number ≡ first_no (limits (profile_of k [] [] []) ∷ together (state_holds s k) ∷ [])
   pub refused : 0 < number → answer ≡ none
   pub accepted : number ≡ 0 → (size : ℕ) (pool : List ℕ) → answer ≡ sought (view s size pool)

@@ -32,13 +32,13 @@ reply octets m = record { octets = octets; state = m }
 
 -- ---- data
 
--- "A packet with nonzero broadcast bits or boundary 3 is counted as dropped. That test comes after the header parses and before the
--- handle is looked up." (E2)
+-- "A packet with nonzero broadcast bits or boundary 3 is counted as dropped. That test comes after the header parses and before
+-- the handle is looked up." (E2)
 abbrev pub flags_served : Acl → Bool
 flags_served header = eqb header.broadcast 0 && leb header.boundary 2
 
--- sections 4.1.1 and 7.8.2: a packet is queued if its header parses, its flags are served, its handle is connected, its length is at
--- most acl_len and buffers in use are below acl_count
+-- sections 4.1.1 and 7.8.2: a packet is queued if its header parses, its flags are served, its handle is connected, its length is
+-- at most acl_len and buffers in use are below acl_count
 abbrev pub accepts : ControllerRow → Result Acl ReadError → Model → Bool
 accepts k (Ok header) m =
     flags_served header
@@ -71,7 +71,8 @@ data_packet k p m = cond (accepts k (parse_acl p) m) (queued p m) (discarded m)
 -- a command goes by its opcode's row; one whose header or parameters are cut short gives no event and is not counted
 abbrev pub by_command : Result Command ReadError → Profile → List ℕ → ℕ → List ℕ → Model → Reply
 by_command (Ok c) g address random p m =
-    reply (whole.command_octets (given g.controller address random (parameters p)) (row_answer g.opcodes g.answers c.opcode) c.opcode m)
+    reply (whole.command_octets (given g.controller address random (parameters p)) (row_answer g.opcodes g.answers c.opcode)
+    c.opcode m)
     (whole.command (given g.controller address random (parameters p)) (row_answer g.opcodes g.answers c.opcode) c.opcode m).state
 by_command (Err e) g address random p m = reply [] m
 

@@ -9,10 +9,14 @@ use borrow.Author.Tests.{eqb-true, eqb-false, ne_eqb}
 use borrow.Table.Steps.{cases}
 use Rattle.lists.specs.Lists.{any, keep}
 use Rattle.lists.proofs.Same.{eqb_sym}
-use Rattle.credits.specs.Credits.{Header, Packet, acl, set_event_mask, Call, packet, opening, taking, completed, dropping, report, disconnected, reset_done, event_mask_set, Book, blank, unacknowledged, put, sum_below, noted, heard, heard_all, book, in_use}
-use Rattle.credits.specs.Steps.{has, others, State, initial, queued, ended, opened, given, after_take, settled, events, opened_link, packets, at}
+use Rattle.credits.specs.Credits.{Header, Packet, acl, set_event_mask, Call, packet, opening, taking, completed, dropping, report}
+use Rattle.credits.specs.Credits.{disconnected, reset_done, event_mask_set, Book, blank, unacknowledged, put, sum_below, noted}
+use Rattle.credits.specs.Credits.{heard, heard_all, book, in_use}
+use Rattle.credits.specs.Steps.{has, others, State, initial, queued, ended, opened, given, after_take, settled, events}
+use Rattle.credits.specs.Steps.{opened_link, packets, at}
 use Rattle.credits.proofs.Sums.{put_own, sum_cong, sum_zero, sum_add, sum_put, sum_at}
-use Rattle.credits.proofs.Handles.{times, never, has_others_same, has_others, times_others_same, times_others, others_none, has_last, times_last_same, times_last, times_left_same, times_left, taken_times, length_sum}
+use Rattle.credits.proofs.Handles.{times, never, has_others_same, has_others, times_others_same, times_others, others_none}
+use Rattle.credits.proofs.Handles.{has_last, times_last_same, times_last, times_left_same, times_left, taken_times, length_sum}
 
 pub record Agrees (s : State) (b : Book) : Type 0 where
   pub opens : (h : ℕ) → b.is_open h ≡ has h s.buffers.handles

@@ -12,7 +12,9 @@ use Rattle.lists.specs.Lists.{distinct_by, distinct}
 use Rattle.lists.proofs.Fewer.{keep_fewer}
 use Rattle.lists.proofs.Distinct.{distinct_fewer, keys_push}
 use Rattle.credits.specs.Credits.{Header, Call, Answer, Profile, Buffers, in_use, Within}
-use Rattle.credits.specs.Steps.{has, others, State, empty, queued, ended, opened, settled, after_take, capacity, flags_served, fits, received, can_open, Step, refusal, pass, reset, mask, receive, connect, take, complete, discard, disconnect}
+use Rattle.credits.specs.Steps.{has, others, State, empty, queued, ended, opened, settled, after_take, capacity, flags_served}
+use Rattle.credits.specs.Steps.{fits, received, can_open, Step, refusal, pass, reset, mask, receive, connect, take, complete}
+use Rattle.credits.specs.Steps.{discard, disconnect}
 use Rattle.credits.proofs.Handles.{has_others_same, others_at_most, others_fewer, taken_left}
 
 pub within_empty : (k : Profile) → Within k empty

@@ -9,11 +9,15 @@ use lib.Dec.{eqb}
 use borrow.Author.Tests.{eqb-true, eqb-false}
 use borrow.Table.Steps.{cases}
 use Rattle.lists.specs.Lists.{any}
-use Rattle.credits.specs.Credits.{Header, Packet, acl, bad_header, set_event_mask, Call, packet, opening, taking, completed, dropping, report, event_mask_set, Answer, Book, noted, heard_all, book, Profile, WellFormed, OpensUnused, Unmasked, ReportsTaken, DropsEnded, DropsNoOther, LinkKeeps, Buffers, Kept}
-use Rattle.credits.specs.Steps.{State, settled, fits, received, may_pass, events, opened_link, at, Step, refusal, pass, reset, mask, receive, connect, take, complete, discard, disconnect}
+use Rattle.credits.specs.Credits.{Header, Packet, acl, bad_header, set_event_mask, Call, packet, opening, taking, completed}
+use Rattle.credits.specs.Credits.{dropping, report, event_mask_set, Answer, Book, noted, heard_all, book, Profile, WellFormed}
+use Rattle.credits.specs.Credits.{OpensUnused, Unmasked, ReportsTaken, DropsEnded, DropsNoOther, LinkKeeps, Buffers, Kept}
+use Rattle.credits.specs.Steps.{State, settled, fits, received, may_pass, events, opened_link, at, Step, refusal, pass, reset}
+use Rattle.credits.specs.Steps.{mask, receive, connect, take, complete, discard, disconnect}
 use Rattle.credits.proofs.Handles.{never, times_last_same}
 use Rattle.credits.proofs.Bounds.{fits_parts, fits_all}
-use Rattle.credits.proofs.Agrees.{Agrees, agrees_reset, counts, agrees_masked, agrees_queued, agrees_opened, agrees_taken, agrees_reported, agrees_none, agrees_ended, agrees_dropped}
+use Rattle.credits.proofs.Agrees.{Agrees, agrees_reset, counts, agrees_masked, agrees_queued, agrees_opened, agrees_taken}
+use Rattle.credits.proofs.Agrees.{agrees_reported, agrees_none, agrees_ended, agrees_dropped}
 
 -- the premises at one call
 pub record Obeys (k : Profile) (b : Book) (c : Call) (a : Answer) : Type 0 where

@@ -4,7 +4,8 @@ use mathlib.Core.Path.{◌≡◌}
 use mathlib.Core.Bool.{Bool, true}
 use mathlib.Core.List.{List, [], ◌∷◌}
 use native.Mathlib.Omega.{arith}
-use Rattle.credits.specs.Credits.{Book, blank, book, Profile, WellFormed, OpensUnused, Unmasked, LinkKeeps, Reading, Made, Chained, last_of, Within, call_of, answer_of, book_after, AllAlong, NothingDropped, CreditsHold}
+use Rattle.credits.specs.Credits.{Book, blank, book, Profile, WellFormed, OpensUnused, Unmasked, LinkKeeps, Reading, Made}
+use Rattle.credits.specs.Credits.{Chained, last_of, Within, call_of, answer_of, book_after, AllAlong, NothingDropped, CreditsHold}
 use Rattle.credits.specs.Steps.{State, empty, Step}
 use Rattle.credits.proofs.Bounds.{within_empty, within_step}
 use Rattle.credits.proofs.Agrees.{Agrees, agrees_initial, counts}

@@ -9,8 +9,13 @@ use Prim.Native.Nat.{ℕ, ◌≤◌, ◌<◌}
 use native.Mathlib.Omega.{arith}
 use lib.Dec.{lit<, lit≤}
 use Rattle.lists.specs.Lists.{any, keep, taken, leaving}
-use Rattle.credits.specs.Credits.{Header, Packet, acl, bad_header, set_event_mask, Call, packet, opening, taking, completed, dropping, report, disconnected, reset_done, event_mask_set, Answer, Book, blank, unacknowledged, sum_below, put, noted, heard, heard_all, book, Profile, FitToSend, WellFormed, OpensUnused, Unmasked, ReportsTaken, DropsEnded, DropsNoOther, Reading, Made, Chained, last_of, call_of, answer_of, book_after, AllAlong, Premises, NothingDropped, CreditsHold}
-use Rattle.credits.specs.Steps.{State, initial, fits, events, opened_link, packets, Step, refusal, pass, reset, mask, receive, connect, take, complete, discard, disconnect}
+use Rattle.credits.specs.Credits.{Header, Packet, acl, bad_header, set_event_mask, Call, packet, opening, taking, completed}
+use Rattle.credits.specs.Credits.{dropping, report, disconnected, reset_done, event_mask_set, Answer, Book, blank, unacknowledged}
+use Rattle.credits.specs.Credits.{sum_below, put, noted, heard, heard_all, book, Profile, FitToSend, WellFormed, OpensUnused}
+use Rattle.credits.specs.Credits.{Unmasked, ReportsTaken, DropsEnded, DropsNoOther, Reading, Made, Chained, last_of, call_of}
+use Rattle.credits.specs.Credits.{answer_of, book_after, AllAlong, Premises, NothingDropped, CreditsHold}
+use Rattle.credits.specs.Steps.{State, initial, fits, events, opened_link, packets, Step, refusal, pass, reset, mask, receive}
+use Rattle.credits.specs.Steps.{connect, take, complete, discard, disconnect}
 use Rattle.credits.proofs.Sums.{sum_zero, sum_put}
 use Rattle.credits.proofs.Handles.{never}
 use Rattle.credits.proofs.Calls.{Obeys}
@@ -43,7 +48,11 @@ header h boundary n = record { handle = h; boundary = boundary; broadcast = 0; l
 -- a call, the handles of the links after it, those of the waiting packets, how many are in flight, and the answer
 abbrev pub entry : Call → List ℕ → List ℕ → ℕ → Answer → Made Call State Answer
 entry c hs ws n a =
-    record { call = c; left = record { buffers = record { handles = hs; waiting = ws; in_flight = n }; unmasked = true }; gave = a }
+    record {
+      call = c;
+      left = record { buffers = record { handles = hs; waiting = ws; in_flight = n }; unmasked = true };
+      gave = a;
+    }
 
 abbrev pub refused : Answer
 refused = record { accepted = false; opened = false; events = []; taken = 0 }

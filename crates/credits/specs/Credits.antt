@@ -194,8 +194,8 @@ pub record Reading (C S A : Type 0) : Type 0 where
   pub answer : C → A → Answer
   pub buffers : S → Buffers
 
--- "Demand 3 is a single claim about a whole list of calls": a call, the state that it returned with the pool that it left, and its
--- answer.
+-- "Demand 3 is a single claim about a whole list of calls": a call, the state that it returned with the pool that it left, and
+-- its answer.
 pub record Made (C S A : Type 0) : Type 0 where
   pub call : C
   pub left : S

@@ -2,9 +2,12 @@
 -- not believe them: crates/agreement proves, from the calls' own contracts, that each call of the controller follows one. They
 -- stand here because the theorem `credits` (proofs/Credits.antt) is stated with them, as it gives the claim for every controller
 -- whose calls follow them, and because wrong controllers are tried on them. For readers of that theorem.
-use Rattle.std.specs.Prelude.{◌≡◌, Bool, true, false, cond, not, ◌||◌, ◌&&◌, List, [], ◌∷◌, ◌++◌, ℕ, ◌+◌, ◌-◌, ◌<◌, eqb, leb, ltb, length}
+use Rattle.std.specs.Prelude.{◌≡◌, Bool, true, false, cond, not, ◌||◌, ◌&&◌, List, [], ◌∷◌, ◌++◌, ℕ, ◌+◌, ◌-◌, ◌<◌, eqb, leb, ltb}
+use Rattle.std.specs.Prelude.{length}
 use Rattle.lists.specs.Lists.{any, keep, taken, leaving}
-use Rattle.credits.specs.Credits.{Header, Packet, acl, bad_header, set_event_mask, Call, packet, opening, taking, completed, dropping, Event, report, disconnected, reset_done, event_mask_set, Answer, Profile, Buffers, in_use}
+use Rattle.credits.specs.Credits.{Header, Packet, acl, bad_header, set_event_mask, Call, packet, opening, taking, completed}
+use Rattle.credits.specs.Credits.{dropping, Event, report, disconnected, reset_done, event_mask_set, Answer, Profile, Buffers}
+use Rattle.credits.specs.Credits.{in_use}
 
 -- ---- lists of handles
 

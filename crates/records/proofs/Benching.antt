@@ -93,14 +93,6 @@ module _ {c : Call} {s t : Held} {a : Answer} (holds : StateHolds s.state bench_
       rw (gives.refused (omega arith)).same holds)
 
   -- what it wrote is in the buffer
-  pub written_within : a.written ≤ length a.before
-  written_within =
-      cases (eqb a.number 0)
-      (λ e. let w = (gives.accepted (eqb-true a.number 0 e)).written in omega (arith, w.next, w.room))
-      (λ e.
-      let z : a.number ≡ 0 → ⊥ = eqb-false a.number 0 e in
-      omega (arith, (gives.refused (omega arith)).nothing.0))
-
   pub written_fits : a.written ≤ length a.after
   written_fits =
       cases (eqb a.number 0)

@@ -40,20 +40,6 @@ pub fn state_octets(
     Ok(out)
 }
 
-fn put_words(out: &mut Vec<u8>, words: &[u16]) -> Result<(), AllocError> {
-    for word in words {
-        out.extend_from_slice(&word.to_le_bytes())?;
-    }
-    Ok(())
-}
-
-fn put_longs(out: &mut Vec<u8>, longs: &[u64]) -> Result<(), AllocError> {
-    for long in longs {
-        out.extend_from_slice(&long.to_le_bytes())?;
-    }
-    Ok(())
-}
-
 // How many entries there are in use, and those, from the front of a list that has so many octets for each.
 fn put_counted(out: &mut Vec<u8>, count: usize, width: u8, list: &[u8]) -> Result<(), AllocError> {
     let [count, ..] = count.to_le_bytes();
@@ -63,19 +49,22 @@ fn put_counted(out: &mut Vec<u8>, count: usize, width: u8, list: &[u8]) -> Resul
 }
 
 fn put_masks(out: &mut Vec<u8>, masks: Masks) -> Result<(), AllocError> {
-    put_longs(out, &[masks.event, masks.event_page2, masks.le_event])
+    let longs = [masks.event, masks.event_page2, masks.le_event];
+    out.extend_from_slice(longs.map(u64::to_le_bytes).as_flattened())
 }
 
 fn put_settings(out: &mut Vec<u8>, settings: Settings) -> Result<(), AllocError> {
     out.extend_from_slice(&settings.random_address)?;
     out.push(settings.address_resolution)?;
-    put_words(out, &[settings.rpa_timeout])?;
-    put_words(out, &settings.suggested_data_length)?;
+    out.extend_from_slice(&settings.rpa_timeout.to_le_bytes())?;
+    let data_length = settings.suggested_data_length.map(u16::to_le_bytes);
+    out.extend_from_slice(data_length.as_flattened())?;
     out.extend_from_slice(&settings.default_phy)?;
     out.push(settings.host_flow_control)?;
     out.push(settings.advertising_family)?;
     out.push(settings.test)?;
-    put_words(out, &settings.rf_path_compensation)
+    let path_compensation = settings.rf_path_compensation.map(u16::to_le_bytes);
+    out.extend_from_slice(path_compensation.as_flattened())
 }
 
 fn put_advertising(out: &mut Vec<u8>, advertising: Advertising) -> Result<(), AllocError> {
@@ -112,7 +101,7 @@ fn put_links(out: &mut Vec<u8>, links: Links, acl_len: u16, pool: &[u8]) -> Resu
     for link in connections {
         put_link(out, *link, links, acl_len, pool)?;
     }
-    put_words(out, &[links.in_flight])
+    out.extend_from_slice(&links.in_flight.to_le_bytes())
 }
 
 // One link, and the packets that wait in it.
@@ -132,7 +121,7 @@ fn put_link(
         link.tx_time,
         link.auth_payload_timeout,
     ];
-    put_words(out, &words)?;
+    out.extend_from_slice(words.map(u16::to_le_bytes).as_flattened())?;
     let modes = [
         link.tx_phy,
         link.rx_phy,
@@ -165,7 +154,7 @@ fn put_packets(
 fn put_packet(out: &mut Vec<u8>, w: Waiting, acl_len: u16, pool: &[u8]) -> Result<(), AllocError> {
     let start = usize::from(w.place) * (usize::from(acl_len) + 5);
     let place = pool.get(start..).unwrap_or(&[]);
-    put_words(out, &[w.len])?;
+    out.extend_from_slice(&w.len.to_le_bytes())?;
     out.extend_from_slice(&place[..place.len().min(usize::from(w.len))])
 }
 
@@ -176,7 +165,7 @@ fn put_counters(out: &mut Vec<u8>, counters: Counters) -> Result<(), AllocError>
         counters.acl_packets,
         counters.acl_dropped,
     ];
-    put_longs(out, &longs)
+    out.extend_from_slice(longs.map(u64::to_le_bytes).as_flattened())
 }
 
 // The last answers.

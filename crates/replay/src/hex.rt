@@ -1,4 +1,4 @@
-// Octets in hex, two digits each. For main.rt.
+// Octets in hex, two digits each; the program `vectors` has its own, since no crate stands below both. For run.rt.
 use std::fmt;
 
 #[derive(Drop)]

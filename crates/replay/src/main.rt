@@ -55,6 +55,7 @@ fn one_run(rt: &impl Print, alloc: Global, input: &mut impl Read) -> io::Result<
 // The next octets of the input, as many as count, or fewer where it ends.
 fn next_octets(alloc: Global, input: &mut impl Read, count: usize) -> io::Result<Vec<u8>> {
     let mut octets = Vec::new(alloc);
+    // Written by `as`: the library has no `From` from usize to u64.
     input.take(count as u64).read_to_end(&mut octets)?;
     Ok(octets)
 }

@@ -24,8 +24,9 @@ impl<'a> Reader<'a> {
         Some(u16::from_le_bytes(self.octets()?))
     }
 
-    pub fn number(&mut self) -> Option<u32> {
-        Some(u32::from_le_bytes(self.octets()?))
+    // A number of four octets that says how many.
+    pub fn size(&mut self) -> Option<usize> {
+        usize::try_from(u32::from_le_bytes(self.octets()?)).ok()
     }
 
     pub fn long(&mut self) -> Option<u64> {

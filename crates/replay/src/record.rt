@@ -35,6 +35,16 @@ pub enum Record<'a> {
     Find { handle: u16 },
 }
 
+// A central's request to connect.
+#[derive(Clone, Copy)]
+pub struct Request {
+    pub handle: u16,
+    pub peer_type: u8,
+    pub peer: [u8; 6],
+    pub timing: Timing,
+    pub accuracy: u8,
+}
+
 // What the air side tells the controller.
 #[derive(Clone, Copy)]
 pub enum Notice {
@@ -49,13 +59,7 @@ pub enum Notice {
     Gone {
         count: u16,
     },
-    Accepted {
-        handle: u16,
-        peer_type: u8,
-        peer: [u8; 6],
-        timing: Timing,
-        accuracy: u8,
-    },
+    Accepted(Request),
     Updated {
         handle: u16,
         timing: Timing,
@@ -111,13 +115,13 @@ fn notice_of(kind: u8, body: &mut Reader<'_>) -> Option<Notice> {
         4 => Notice::Gone {
             count: body.word()?,
         },
-        5 => Notice::Accepted {
+        5 => Notice::Accepted(Request {
             handle: body.word()?,
             peer_type: body.octet()?,
             peer: body.octets()?,
             timing: timing_of(body)?,
             accuracy: body.octet()?,
-        },
+        }),
         6 => Notice::Updated {
             handle: body.word()?,
             timing: timing_of(body)?,

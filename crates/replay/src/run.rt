@@ -1,7 +1,7 @@
 // A run: its records, which record.rt describes, are answered one after the other from the default state on. For main.rt.
 use crate::hex::Hex;
 use crate::reader::Reader;
-use crate::record::{Notice, Record};
+use crate::record::{Notice, Record, Request};
 use crate::setup::{Setup, Sizes};
 use crate::{dump, queries};
 use controller::{Changed, Told, Took};
@@ -12,8 +12,8 @@ use std::io;
 // No answer has more octets: a run ends where less room is left.
 const LONGEST_ANSWER: usize = 40960;
 
-// A unit during a run: what it was set up with, its state, and the buffers that the calls are lent. The buffers are the run's own,
-// so that it finds nothing of an earlier run.
+// A unit during a run: what it was set up with, its state, and the buffers that the calls are lent. The buffers are the run's
+// own, so that it finds nothing of an earlier run.
 #[derive(Drop)]
 struct Unit<'a> {
     setup: Setup<'a>,
@@ -141,14 +141,14 @@ impl<'a> Unit<'a> {
     }
 
     fn packet(&mut self, packet: &[u8]) -> Reply {
+        // A copy, since the address is lent beside what is read of the setup.
         let setup = self.setup;
-        let s = self.state;
         controller::on_packet(
             setup.profile,
             self.opcodes.as_slice(),
             self.answers.as_slice(),
             self.bits.as_slice(),
-            s,
+            self.state,
             self.pool.as_mut_slice(),
             &setup.address,
             setup.random,
@@ -159,15 +159,29 @@ impl<'a> Unit<'a> {
     }
 
     fn take(&mut self, handle: u16, most: u16) -> Reply {
-        let profile = self.setup.profile;
-        let s = self.state;
         controller::take_transmit(
-            profile,
-            s,
+            self.setup.profile,
+            self.state,
             self.pool.as_slice(),
             handle,
             usize::from(most),
             self.packets.as_mut_slice(),
+        )
+        .into()
+    }
+
+    fn accepted(&mut self, request: Request) -> Reply {
+        controller::accept_connection(
+            self.setup.profile,
+            self.state,
+            request.handle,
+            request.peer_type,
+            &request.peer,
+            request.timing.interval,
+            request.timing.latency,
+            request.timing.timeout,
+            request.accuracy,
+            self.events.as_mut_slice(),
         )
         .into()
     }
@@ -186,19 +200,7 @@ impl<'a> Unit<'a> {
                 controller::completed(profile, s, handle, count, events).into()
             }
             Notice::Gone { count } => controller::drop_in_flight(profile, s, count).into(),
-            Notice::Accepted {
-                handle,
-                peer_type,
-                peer,
-                timing: t,
-                accuracy,
-            } => {
-                controller::accept_connection(
-                    profile, s, handle, peer_type, &peer, t.interval, t.latency, t.timeout,
-                    accuracy, events,
-                )
-                .into()
-            }
+            Notice::Accepted(request) => self.accepted(request),
             Notice::Updated { handle, timing: t } => {
                 controller::peer_update(
                     profile, s, handle, t.interval, t.latency, t.timeout, events,

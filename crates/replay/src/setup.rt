@@ -30,12 +30,12 @@ impl Sizes {
     pub fn of(head: &[u8]) -> Option<Sizes> {
         let mut numbers = Reader::new(head);
         Some(Sizes {
-            setup: numbers.number()? as usize,
-            pool: numbers.number()? as usize,
-            events: numbers.number()? as usize,
-            packets: numbers.number()? as usize,
-            answers: numbers.number()? as usize,
-            records: numbers.number()? as usize,
+            setup: numbers.size()?,
+            pool: numbers.size()?,
+            events: numbers.size()?,
+            packets: numbers.size()?,
+            answers: numbers.size()?,
+            records: numbers.size()?,
         })
     }
 }
