@@ -1,5 +1,5 @@
-// Document 01's cases by number that no proposition covers, and each refusal number once: what is asked, and the number that comes
-// back. The file stdout has document 01's numbers.
+// Document 01's cases by number that no proposition covers, and each refusal number once: what is asked, and the number that
+// comes back. The file stdout has document 01's numbers.
 #![tactic(auto)]
 
 use hci::{MaskError, WriteError};

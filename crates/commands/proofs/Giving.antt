@@ -104,8 +104,9 @@ module _ {f : Model → Outcome} {k : ControllerRow} {s : Controller} where
 
 module _ {form : ℕ → AnswerModel} {f : Model → Outcome} {k : ControllerRow} {s : Controller} {code : ℕ} where
   -- the definition f says so
-  pub gives_status : {t : Controller} → ((size : ℕ) (pool : List ℕ) → f (view s size pool) ≡ outcome (form code) (view t size pool))
-      → StateHolds t k → GivesStatus form f k s t code
+  pub gives_status : {t : Controller}
+      → ((size : ℕ) (pool : List ℕ) → f (view s size pool) ≡ outcome (form code) (view t size pool)) → StateHolds t k
+      → GivesStatus form f k s t code
   gives_status same held = record { viewed = λ size pool. sym (same size pool); held = held }
 
   -- the connection of handle h changed by g, which keeps its handle
@@ -116,5 +117,6 @@ module _ {form : ℕ → AnswerModel} {f : Model → Outcome} {k : ControllerRow
       → StateHolds s k → GivesStatus form f k s (put_links r s) code
   gives_status_changed h g keeps x same held =
       gives_status
-      (λ size pool. same size pool ∙ ap (λ (y : links.Model). outcome (form code) (with_links y (view s size pool))) (sym (x.viewed size pool)))
+      (λ size pool. same size pool
+      ∙ ap (λ (y : links.Model). outcome (form code) (with_links y (view s size pool))) (sym (x.viewed size pool)))
       (holds_links held (changed_holds s.links held.links h g keeps x))

@@ -27,7 +27,8 @@ status_of (Err e) = error_octet e
 
 -- the code gives a status, told in a form, and the state t where the definition f says so of the state s, whatever the pool
 -- holds; the new state holds together
-pub record GivesStatus (form : ℕ → AnswerModel) (f : Model → Outcome) (profile : ControllerRow) (s t : Controller) (code : ℕ) : Type 0 where
+pub record GivesStatus (form : ℕ → AnswerModel) (f : Model → Outcome) (profile : ControllerRow) (s t : Controller) (code : ℕ)
+    : Type 0 where
   pub viewed : (size : ℕ) (pool : List ℕ) → outcome (form code) (view t size pool) ≡ f (view s size pool)
   pub held : StateHolds t profile
 

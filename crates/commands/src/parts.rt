@@ -25,8 +25,9 @@ pub struct Answered<P> {
     pub answer: Answer,
 }
 
-// What a command gives that may be refused: then the part is as it was before. A method for each form in which the status is told:
-// one that were handed how to tell it would be called by more words than it saves. Inline, or the part would be copied once more.
+// What a command gives that may be refused: then the part is as it was before. A method for each form in which the status is
+// told: one that were handed how to tell it would be called by more words than it saves. Inline, or the part would be copied once
+// more.
 impl<P: Copy> Answered<P> {
     // By Command Complete with a status alone.
     #[inline(always)]
@@ -42,7 +43,8 @@ impl<P: Copy> Answered<P> {
     // By Command Complete with a status and a handle.
     #[inline(always)]
     pub fn done_handle(before: P, outcome: Result<P, ErrorCode>, handle: u16) -> Answered<P>
-        ensures { (result.part ≡ result_unwrap_or outcome before) × Answers (done_handle (status_of outcome) handle) result.answer }
+        ensures { (result.part ≡ result_unwrap_or outcome before)
+            × Answers (done_handle (status_of outcome) handle) result.answer }
     {
         Answered {
             part: outcome.unwrap_or(before),

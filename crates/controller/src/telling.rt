@@ -11,8 +11,8 @@ use state::Controller;
 
 // The state with what the notice changed, and its event, if it has one, written to the front of out. A notice has no
 // acknowledgement, so there is no opcode. The state is put together before the event is written (docs/SPEED.md). Each notice asks
-// its questions itself: in one function that asks and runs the notice as a closure the state is copied once more, and calls take 1
-// to 28 % more instructions, of those without a buffer 11 to 18 %.
+// its questions itself: in one function that asks and runs the notice as a closure the state is copied once more, and calls take
+// 1 to 28 % more instructions, of those without a buffer 11 to 18 %.
 pub fn heard<P: StatePart>(s: Controller, r: Answered<P>, out: &mut [u8]) -> Told
     requires { CanTell r.answer out.old }
     ensures number { result.number ≡ 0 }
