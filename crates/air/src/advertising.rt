@@ -20,8 +20,8 @@ fn advertising_intervals_valid(p: &[u8; 15]) -> bool
     let least = octets::word_at(p, 0);
     let greatest = octets::word_at(p, 2);
     p[4] == 1
-        || (commands::within(0x0020, 0x4000, least)
-            && commands::within(0x0020, 0x4000, greatest)
+        || ((0x0020..=0x4000).contains(&least)
+            && (0x0020..=0x4000).contains(&greatest)
             && least <= greatest)
 }
 

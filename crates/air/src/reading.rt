@@ -20,7 +20,7 @@ pub fn read_buffer_size(profile: ControllerRow) -> Answer
 pub fn read_local_features(profile: ControllerRow) -> Answer
     ensures { Answers (read_local_features profile) result }
 {
-    let f = commands::long_octets(profile.le_features);
+    let f = profile.le_features.to_le_bytes();
     answers::complete(&[SUCCESS, f[0], f[1], f[2], f[3], f[4], f[5], f[6], f[7]])
 }
 
@@ -29,7 +29,7 @@ pub fn read_local_features(profile: ControllerRow) -> Answer
 pub fn read_advertising_power(profile: ControllerRow) -> Answer
     ensures { Answers (read_advertising_power profile) result }
 {
-    answers::complete(&[SUCCESS, signed::octet_of(profile.adv_tx_power)])
+    answers::complete(&[SUCCESS, profile.adv_tx_power.cast_unsigned()])
 }
 
 // LE Read Filter Accept List Size (section 7.8.14).

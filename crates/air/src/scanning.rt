@@ -13,8 +13,8 @@ use state::{Controller, Scanning};
 pub fn scan_times_valid(interval: u16, window: u16) -> bool
     ensures { result ≡ (within 0x0004 0x4000 interval && (within 0x0004 0x4000 window && leb window interval)) }
 {
-    commands::within(0x0004, 0x4000, interval)
-        && commands::within(0x0004, 0x4000, window)
+    (0x0004..=0x4000).contains(&interval)
+        && (0x0004..=0x4000).contains(&window)
         && window <= interval
 }
 

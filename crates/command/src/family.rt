@@ -17,10 +17,10 @@ use state::{EXTENDED, LEGACY, Settings};
 pub fn family_of(op: u16) -> u8
     ensures { result ≡ family_of op }
 {
-    if commands::within(0x2006, 0x200D, op) {
+    if (0x2006..=0x200D).contains(&op) {
         return LEGACY;
     }
-    if commands::within(0x2036, 0x204A, op) || matches!(op, 0x205C | 0x205D) {
+    if (0x2036..=0x204A).contains(&op) || matches!(op, 0x205C | 0x205D) {
         return EXTENDED;
     }
     0
@@ -69,7 +69,7 @@ pub fn disallowed(profile: ControllerRow, op: u16) -> Answer
     ensures { Answers (cond (eqb op 0x2007) (complete (0x0C ∷ octet_of profile.adv_tx_power ∷ [])) (refused op 0x0C)) result }
 {
     if op == 0x2007 {
-        return answers::complete(&[COMMAND_DISALLOWED, signed::octet_of(profile.adv_tx_power)]);
+        return answers::complete(&[COMMAND_DISALLOWED, profile.adv_tx_power.cast_unsigned()]);
     }
     refuse(op, COMMAND_DISALLOWED)
 }

@@ -44,7 +44,8 @@ pub fn reset(s: Controller) -> Answered<Controller>
     Answered::done(s, Ok(state::reset(s)))
 }
 
-// Read Transmit Power Level (section 7.3.35).
+// Read Transmit Power Level (section 7.3.35): the current one, which is the profile's advertising power, or the greatest, which is at
+// most 20 dBm.
 #[tactic(auto, unfolding(commands::specs::Known::read_transmit_power))]
 pub fn read_transmit_power(profile: ControllerRow, p: &[u8; 3], links: Links) -> Answer
     requires { links.count ≤ 16 }
@@ -52,25 +53,15 @@ pub fn read_transmit_power(profile: ControllerRow, p: &[u8; 3], links: Links) ->
 {
     let handle = octets::word_at(p, 0);
     let [low, high] = handle.to_le_bytes();
-    let kind = p[2];
-    if kind > 1 {
-        return answers::complete(&[INVALID_PARAMETERS, low, high, 0]);
-    }
+    let power = match p[2] {
+        0 => profile.adv_tx_power,
+        1 => profile.tx_power_max.min(20),
+        _ => return answers::complete(&[INVALID_PARAMETERS, low, high, 0]),
+    };
     if !links::has(links, handle) {
         return answers::complete(&[UNKNOWN_CONNECTION, low, high, 0]);
     }
-    answers::complete(&[SUCCESS, low, high, power_level(profile, kind)])
-}
-
-// The current transmit power, which is the profile's advertising power, or the greatest, which is at most 20 dBm. `kind` is the
-// host's octet, as the definition cites it.
-fn power_level(profile: ControllerRow, kind: u8) -> u8
-    ensures { result ≡ definition.power_level profile kind }
-{
-    if kind == 0 {
-        return signed::octet_of(profile.adv_tx_power);
-    }
-    signed::octet_of(signed::lesser_signed(profile.tx_power_max, 20))
+    answers::complete(&[SUCCESS, low, high, power.cast_unsigned()])
 }
 
 // Set Controller To Host Flow Control (section 7.3.38): kept, and nothing more.

@@ -38,6 +38,6 @@ pub fn rand(random: u64) -> Answer
     ensures { Answers (rand_of random) result }
 {
     let mut returned = [SUCCESS; 9];
-    returned[1..].copy_from_slice(&commands::long_octets(random));
+    returned[1..].copy_from_slice(&random.to_le_bytes());
     answers::complete(&returned)
 }

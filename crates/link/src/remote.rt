@@ -42,7 +42,7 @@ pub fn read_remote_features(
         return answers::status(UNKNOWN_CONNECTION);
     }
     let [low, high] = handle.to_le_bytes();
-    let f = commands::long_octets(profile.le_features);
+    let f = profile.le_features.to_le_bytes();
     let params = [
         SUCCESS, low, high, f[0], f[1], f[2], f[3], f[4], f[5], f[6], f[7],
     ];

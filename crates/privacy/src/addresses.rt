@@ -41,7 +41,7 @@ pub fn set_address_timeout(s: Controller, p: &[u8; 2]) -> Result<Settings, Error
 {
     let mut settings = s.settings;
     let timeout = octets::word_at(p, 0);
-    if !commands::within(0x0001, 0x0E10, timeout) {
+    if !(0x0001..=0x0E10).contains(&timeout) {
         return Err(ErrorCode::InvalidParameters);
     }
     settings.rpa_timeout = timeout;

@@ -63,10 +63,10 @@ pub fn pick_phy(profile: ControllerRow, preferred: Option<u8>, current: u8) -> u
     };
     let supported = commands::phys(profile);
     let both = allowed & supported;
-    if (both >> 1) % 2 == 1 {
+    if commands::has_phy(both, LE_2M) {
         return LE_2M;
     }
-    if both % 2 == 1 || both == 0 {
+    if commands::has_phy(both, LE_1M) || both == 0 {
         return LE_1M;
     }
     LE_CODED

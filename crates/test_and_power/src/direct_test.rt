@@ -28,16 +28,14 @@ fn idle(s: Controller) -> bool
 }
 
 // Whether the controller has the PHY of a test: 1 LE 1M, 2 LE 2M, 3 LE Coded, and for sending 4 LE Coded S=2.
-#[tactic(auto, unfolding(commands::specs::Test::test_phy))]
+#[tactic(auto, unfolding(commands::specs::Test::test_phy, commands::specs::Checks::phys))]
 fn test_phy(profile: ControllerRow, transmit: bool, phy: u8) -> bool
     ensures { result ≡ test_phy profile transmit phy }
 {
-    let features = profile.le_features;
+    let phys = commands::phys(profile);
     match phy {
-        1 => true,
-        2 => (features >> 8) % 2 == 1,
-        3 => (features >> 11) % 2 == 1,
-        4 => transmit && (features >> 11) % 2 == 1,
+        1..=3 => commands::has_phy(phys, phy),
+        4 => transmit && commands::has_phy(phys, 3),
         _ => false,
     }
 }

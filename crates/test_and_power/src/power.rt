@@ -18,8 +18,8 @@ use state::{Controller, Settings};
 pub fn read_power_range(profile: ControllerRow) -> Answer
     ensures { Answers (read_power_range profile) result }
 {
-    let least = signed::octet_of(profile.tx_power_min);
-    let greatest = signed::octet_of(profile.tx_power_max);
+    let least = profile.tx_power_min.cast_unsigned();
+    let greatest = profile.tx_power_max.cast_unsigned();
     answers::complete(&[SUCCESS, least, greatest])
 }
 
