@@ -30,7 +30,8 @@ chunks_drop d m l = rw (chunks_add 3 d m l) (drop_at (chunks 3 d l) (chunks 3 m 
 
 module _ (l : List ℕ) (a b c n kept : ℕ) {end r : ℕ} {one after : List ℕ}
     (long : length l ≡ 96) (most : n ≤ 32) (k : kept ≡ min n 31) where
-  pub one_more : Put l 0 (take (3 * kept) (drop (3 * (n - kept)) l)) end one → Put one end (a ∷ b ∷ c ∷ []) r after
+  pub one_more : Put l 0 (take (3 * n - 3 * (n - kept)) (drop (3 * (n - kept)) l)) end one
+      → Put one end (a ∷ b ∷ c ∷ []) r after
       → chunks 3 (kept + 1) after ≡ remember (a ∷ b ∷ c ∷ []) (chunks 3 n l)
   unfolding chunks
   one_more p q =
@@ -39,7 +40,7 @@ module _ (l : List ℕ) (a b c n kept : ℕ) {end r : ℕ} {one after : List ℕ
       let old : List ℕ = drop (d * 3) l in
       let room : kept * 3 ≤ length old = simp length-drop (omega arith) in
       let from : 3 * (n - kept) ≡ d * 3 = omega arith in
-      let count : 3 * kept ≡ kept * 3 = omega arith in
+      let count : 3 * n - 3 * (n - kept) ≡ kept * 3 = omega arith in
       let all : d + kept ≡ n = omega arith in
       let both : Put l 0 (take (kept * 3) old ++ answer) r after = put_then (rw (count, from) at p) q in
       let size : length (take (kept * 3) old) ≡ kept * 3 = length-take-le (kept * 3) old room in

@@ -14,8 +14,11 @@ pub fn remember(recent: Recent, op: u16, status: u8) -> Recent
     let n = recent.count;
     let [low, high] = op.to_le_bytes();
     let kept = n.min(31);
-    let mut octets = recent.octets;
-    let end = octets::move_to_front(&mut octets, 3 * (n - kept), 3 * kept);
+    let from = 3 * (n - kept);
+    // Copied from beside: moved within the one array (`copy_within`) it is a loop, some hundred instructions more a command.
+    let before = recent.octets;
+    let mut octets = before;
+    let end = octets::put(&mut octets, 0, &before[from..3 * n]);
     octets::put(&mut octets, end, &[low, high, status]);
     Recent {
         octets,

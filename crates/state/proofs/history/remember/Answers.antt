@@ -7,4 +7,4 @@ pub returns : goal.returns
 returns c =
     rw c.to_le_bytes.ensures at
     (one_more c.args.recent.octets _ _ _ c.args.recent.count c.min-kept.result (search rules) c.requires c.min-kept.ensures
-    c.move_to_front-end.ensures c.put.ensures)
+    c.put-end.ensures c.put.ensures)
