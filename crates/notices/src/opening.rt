@@ -86,6 +86,8 @@ pub fn accept_connection(
     let [interval_low, interval_high] = timing.interval.to_le_bytes();
     let [latency_low, latency_high] = timing.latency.to_le_bytes();
     let [timeout_low, timeout_high] = timing.timeout.to_le_bytes();
+    // `commands` writes the same six octets of an update. As a function of both they would go into each array by a write that
+    // needs a proof, where the literals need none.
     let tail = [
         interval_low,
         interval_high,

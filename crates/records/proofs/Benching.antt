@@ -93,14 +93,6 @@ module _ {c : Call} {s t : Held} {a : Answer} (holds : StateHolds s.state bench_
       rw (gives.refused (omega arith)).same holds)
 
   -- what it wrote is in the buffer
-  pub written_fits : a.written ≤ length a.after
-  written_fits =
-      cases (eqb a.number 0)
-      (λ e. let w = (gives.accepted (eqb-true a.number 0 e)).written in omega (arith, w.next, w.room, put_long w))
-      (λ e.
-      let z : a.number ≡ 0 → ⊥ = eqb-false a.number 0 e in
-      omega (arith, (gives.refused (omega arith)).nothing.0))
-
   pub written_long : length (take a.written a.after) ≡ a.written
   written_long =
       cases (eqb a.number 0)
@@ -109,6 +101,9 @@ module _ {c : Call} {s t : Held} {a : Answer} (holds : StateHolds s.state bench_
       let z : a.number ≡ 0 → ⊥ = eqb-false a.number 0 e in
       let none = (gives.refused (omega arith)).nothing.0 in
       rw (none))
+
+  pub written_fits : a.written ≤ length a.after
+  written_fits = omega (arith, written_long, length-take a.written a.after)
 
   -- its octets and its number are printed as the definitions say
   pub call_prints : Lends c (model_of bench s) a.before → {text : List ℕ}

@@ -27,7 +27,7 @@ fn run_lines(mut unit: Unit, input: &[u8], out: &mut [u8], at: usize) -> usize
     let mut packet = [0; 1024];
     let mut p = at;
     let mut rest = input;
-    // A step is a line's length, so it is no `for`.
+    // No `for` over `split_inclusive`: it yields each line with its newline, and taking that off needs a longer proof.
     while !rest.is_empty() {
         if out.len() - p < 512 {
             return p;
