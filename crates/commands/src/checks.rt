@@ -2,7 +2,7 @@
 ghost use Rattle.std.specs.Prelude.{◌≡◌, ◌≤◌, ◌+◌, ◌-◌, ◌*◌, ltb, eqb};
 ghost use Rattle.hci.specs.Bits.{bit_of};
 ghost use Rattle.octets.specs.Octets.{number_at};
-ghost use Rattle.commands.specs.Checks.{connection_params_valid, data_length_valid};
+ghost use Rattle.commands.specs.Checks.{connection_params_valid};
 ghost use Rattle.commands.specs.Checks.{phys as phys_of};
 
 use profile::ControllerRow;
@@ -31,14 +31,6 @@ fn outlasts(max: u16, latency: u16, timeout: u16) -> bool
 {
     let longest = (1 + u32::from(latency)) * u32::from(max);
     longest < u32::from(timeout) * 4
-}
-
-// The longest data packets of a link (sections 7.8.33 and 7.8.35).
-#[tactic(auto, unfolding(crate::specs::Checks::data_length_valid))]
-pub fn data_length_valid(octets: u16, time: u16) -> bool
-    ensures { result ≡ data_length_valid octets time }
-{
-    (0x001B..=0x00FB).contains(&octets) && (0x0148..=0x4290).contains(&time)
 }
 
 // The PHYs that the profile's features name, as a bit set.

@@ -10,7 +10,7 @@ mod events;
 mod parts;
 mod table;
 
-pub use checks::{connection_params_valid, data_length_valid, has_phy, long_at, phys};
+pub use checks::{connection_params_valid, has_phy, long_at, phys};
 pub use error::ErrorCode;
 pub use events::{
     followed_by_connection_failed, followed_by_encryption_change, followed_by_event,

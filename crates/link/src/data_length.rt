@@ -1,11 +1,12 @@
 // The longest data packets: of a link, and those suggested for new links.
-ghost use Rattle.std.specs.Prelude.{◌≡◌, ◌&&◌, eqb};
+ghost use Rattle.std.specs.Prelude.{◌≡◌, ◌+◌, ◌≤◌, length};
 ghost use Rattle.octets.specs.Octets.{word};
 ghost use Rattle.links.specs.Links.{CountsFit};
 ghost use Rattle.answers.specs.Answers.{followed};
 ghost use Rattle.commands.specs.Outcome.{Answers, GivesAny, done, done_handle};
 ghost use Rattle.commands.specs.Refused.{YieldsAny};
 ghost use Rattle.commands.specs.Put.{put_links, put_settings};
+ghost use Rattle.commands.specs.Checks.{data_length_valid};
 ghost use Rattle.commands.specs.Link.{new_octets, new_time, data_length_change, set_data_length};
 ghost use Rattle.commands.specs.Link.{read_suggested_data_length, write_suggested_data_length};
 
@@ -17,25 +18,43 @@ use links::{Connection, Links};
 use profile::ControllerRow;
 use state::{Controller, Masks, Settings};
 
-// The octets that the host asks for, cut to the profile's greatest.
-fn new_octets(profile: ControllerRow, p: &[u8; 6]) -> u16
-    ensures { result ≡ new_octets profile p.now }
-{
-    octets::word_at(p, 2).min(profile.max_tx_octets)
+// The longest data packets: so many octets, sent in so many microseconds.
+#[derive(Clone, Copy, PartialEq)]
+struct DataLength {
+    octets: u16,
+    time: u16,
 }
 
-// The time that the host asks for, cut to the profile's greatest.
-fn new_time(profile: ControllerRow, p: &[u8; 6]) -> u16
-    ensures { result ≡ new_time profile p.now }
-{
-    octets::word_at(p, 4).min(profile.max_tx_time)
+impl DataLength {
+    // The two numbers at index at of a command's parameters.
+    fn read(p: &[u8], at: usize) -> DataLength
+        requires { at + 4 ≤ length p.now }
+        ensures { (result.octets ≡ word p.now at) × (result.time ≡ word p.now (at + 2)) }
+    {
+        DataLength {
+            octets: octets::word_at(p, at),
+            time: octets::word_at(p, at + 2),
+        }
+    }
+
+    // Whether both are in their ranges (sections 7.8.33 and 7.8.35).
+    #[tactic(auto, unfolding(commands::specs::Checks::data_length_valid))]
+    fn is_valid(self) -> bool
+        ensures { result ≡ data_length_valid self.octets self.time }
+    {
+        (0x001B..=0x00FB).contains(&self.octets) && (0x0148..=0x4290).contains(&self.time)
+    }
 }
 
-// Whether a link has these longest data packets already.
-fn same_data_length(c: Connection, octets: u16, time: u16) -> bool
-    ensures { result ≡ (eqb c.tx_octets octets && eqb c.tx_time time) }
+// What the host asks for, cut to the profile's greatest.
+fn new_data_length(profile: ControllerRow, p: &[u8; 6]) -> DataLength
+    ensures { (result.octets ≡ new_octets profile p.now) × (result.time ≡ new_time profile p.now) }
 {
-    c.tx_octets == octets && c.tx_time == time
+    let asked = DataLength::read(p, 2);
+    DataLength {
+        octets: asked.octets.min(profile.max_tx_octets),
+        time: asked.time.min(profile.max_tx_time),
+    }
 }
 
 // The answer to Set Data Length about the connection c as it was: LE Data Length Change follows where something changes.
@@ -43,15 +62,18 @@ fn data_length_change(profile: ControllerRow, masks: Masks, c: Connection, p: &[
     ensures { Answers (followed (data_length_change profile p.now masks c) (done_handle 0 (word p.now 0))) result }
 {
     let handle = octets::word_at(p, 0);
-    let octets = new_octets(profile, p);
-    let time = new_time(profile, p);
+    let new = new_data_length(profile, p);
+    let old = DataLength {
+        octets: c.tx_octets,
+        time: c.tx_time,
+    };
     let answer = answers::done_handle(SUCCESS, handle);
-    if same_data_length(c, octets, time) {
+    if new == old {
         return answer;
     }
     let [low, high] = handle.to_le_bytes();
-    let [octets_low, octets_high] = octets.to_le_bytes();
-    let [time_low, time_high] = time.to_le_bytes();
+    let [octets_low, octets_high] = new.octets.to_le_bytes();
+    let [time_low, time_high] = new.time.to_le_bytes();
     let [max_octets_low, max_octets_high] = profile.max_tx_octets.to_le_bytes();
     let [max_time_low, max_time_high] = profile.max_tx_time.to_le_bytes();
     let params = [
@@ -76,16 +98,15 @@ pub fn set_data_length(s: Controller, profile: ControllerRow, p: &[u8; 6]) -> An
     ensures { GivesAny (set_data_length profile p.now) s (put_links result.part s) result.answer }
 {
     let handle = octets::word_at(p, 0);
-    if !commands::data_length_valid(octets::word_at(p, 2), octets::word_at(p, 4)) {
+    if !DataLength::read(p, 2).is_valid() {
         return Answered::done_handle(s.links, Err(ErrorCode::InvalidParameters), handle);
     }
     let Some(c) = links::connection_of(s.links, handle) else {
         return Answered::done_handle(s.links, Err(ErrorCode::UnknownConnection), handle);
     };
-    let octets = new_octets(profile, p);
-    let time = new_time(profile, p);
+    let new = new_data_length(profile, p);
     Answered {
-        part: links::set_data_length(s.links, handle, octets, time),
+        part: links::set_data_length(s.links, handle, new.octets, new.time),
         answer: data_length_change(profile, s.masks, c, p),
     }
 }
@@ -106,12 +127,11 @@ pub fn read_suggested_data_length(settings: Settings) -> Answer
 pub fn write_suggested_data_length(s: Controller, p: &[u8; 4]) -> Result<Settings, ErrorCode>
     ensures { YieldsAny done (write_suggested_data_length p.now) put_settings s.settings s result }
 {
-    let octets = octets::word_at(p, 0);
-    let time = octets::word_at(p, 2);
+    let suggested = DataLength::read(p, 0);
     let mut settings = s.settings;
-    if !commands::data_length_valid(octets, time) {
+    if !suggested.is_valid() {
         return Err(ErrorCode::InvalidParameters);
     }
-    settings.suggested_data_length = [octets, time];
+    settings.suggested_data_length = [suggested.octets, suggested.time];
     Ok(settings)
 }
