@@ -62,14 +62,12 @@ impl From<Result<usize, WriteError>> for Wrote {
     ghost from_gives = { λ answer r. (r.number ≡ write.number answer) × (r.written ≡ write.count answer) };
 
     fn from(answer: Result<usize, WriteError>) -> Wrote {
-        let number = match answer {
-            Ok(_) => 0,
-            Err(WriteError::TooLong) => 8,
-            Err(WriteError::NoRoom) => 9,
-        };
-        Wrote {
-            number,
-            written: answer.unwrap_or(0),
+        match answer {
+            Ok(written) => Wrote { number: 0, written },
+            Err(e) => Wrote {
+                number: e.into(),
+                written: 0,
+            },
         }
     }
 }
@@ -124,7 +122,7 @@ pub fn wegrulsta_write_le_meta(subevent: u8, params: &[u8], out: &mut [u8]) -> W
     hci::le_meta(subevent, params, out).into()
 }
 
-// Why a packet is not read, as C gets it. No `From`: neither type is of this crate.
+// Why a packet is not read, as C gets it. No `From`: neither type is of this crate, and the numbers are of C's constants above.
 fn kind_of(e: ReadError) -> u8
     ensures { result ≡ kind_of e }
 {
@@ -205,8 +203,8 @@ impl From<Result<bool, MaskError>> for MaskHas {
     fn from(answer: Result<bool, MaskError>) -> MaskHas {
         match answer {
             Ok(has) => MaskHas { number: 0, has },
-            Err(MaskError::NoSuchBit) => MaskHas {
-                number: 10,
+            Err(e) => MaskHas {
+                number: e.into(),
                 has: false,
             },
         }

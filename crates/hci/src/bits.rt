@@ -1,11 +1,20 @@
 // Bits of masks and of bit maps.
-ghost use Rattle.std.specs.Prelude.{◌≡◌};
-ghost use Rattle.hci.specs.Bits.{MaskHas, with_bit};
+ghost use Rattle.std.specs.Prelude.{◌≡◌, Err};
+ghost use Rattle.hci.specs.Bits.{MaskHas, number, with_bit};
 
-// A 64-bit mask has no bit of 64 or more (refusal 10).
+// A 64-bit mask has no bit of 64 or more.
 #[derive(Clone, Copy)]
 pub enum MaskError {
     NoSuchBit,
+}
+
+// The question's number, which C gets.
+impl From<MaskError> for u8 {
+    ghost from_gives = { λ e n. n ≡ number (Err e) };
+
+    fn from(_: MaskError) -> u8 {
+        10
+    }
 }
 
 // Whether a mask has a bit.

@@ -1,19 +1,31 @@
 // What a controller writes to the host. Each writer puts its packet at the front of the buffer, keeps the rest of the
 // buffer and answers how many octets it wrote, or refuses and changes nothing.
-ghost use Rattle.std.specs.Prelude.{◌≡◌, ◌++◌, ◌+◌, ◌*◌, ◌≤◌, min, length};
+ghost use Rattle.std.specs.Prelude.{◌≡◌, Err, ◌++◌, ◌+◌, ◌*◌, ◌≤◌, min, length};
 ghost use Rattle.octets.specs.Octets.{Put};
 ghost use Rattle.hci.specs.Packet as packet;
-ghost use Rattle.hci.specs.Write.{Wrote, WroteEvent};
+ghost use Rattle.hci.specs.Write.{Wrote, WroteEvent, number};
 
 use crate::event_code::{COMMAND_COMPLETE, COMMAND_STATUS, LE_META, NUMBER_OF_COMPLETED_PACKETS};
 use h4::{H4_ACL, H4_EVENT};
 
-// Why a writer writes nothing: the packet's length field can't hold its length (refusal 8), or the buffer can't hold the packet
-// (refusal 9). Else it answers how many octets it wrote.
+// Why a writer writes nothing: the packet's length field can't hold its length, or the buffer can't hold the packet. Else it
+// answers how many octets it wrote.
 #[derive(Clone, Copy)]
 pub enum WriteError {
     TooLong,
     NoRoom,
+}
+
+// The question's number, which C gets.
+impl From<WriteError> for u8 {
+    ghost from_gives = { λ e n. n ≡ number (Err e) };
+
+    fn from(e: WriteError) -> u8 {
+        match e {
+            WriteError::TooLong => 8,
+            WriteError::NoRoom => 9,
+        }
+    }
 }
 
 // An event of the parameters in head and then those in body.
