@@ -24,7 +24,7 @@ use Rattle.state.proofs.Keeping.{accept_empty, resolving_empty}
 use Rattle.state.proofs.Fresh.{settings_fresh}
 use Rattle.commands.specs.Command.{family_of, other_family, modelled, listed_row, by_row, command}
 use Rattle.commands.specs.Table.{find}
-use Rattle.commands.specs.Following.{le_meta_event, connection_failed}
+use Rattle.commands.specs.Following.{le_meta_event, connection_complete, connection_failed}
 use Rattle.commands.specs.Known as known
 use Rattle.notices.specs.Notices as notices
 use Rattle.calls.specs.Packets.{Profile, data_packet, queues}
@@ -118,8 +118,8 @@ pub run_chained : Chained (Called bench_profile) (held start pool) run
 unfolding first_at any all keep taken leaving update_first distinct_by chunks splice flatten parse_command parse_acl pairs
     within_limits rows_fit links_hold accept_holds resolving_holds advertising_holds settings_hold own_parts_hold state_holds
     first_no
-    ended opened_last enqueued taken_from after_taking settled changed connection_of remember le_meta_event connection_failed
-    notices.open_connection notices.connection_complete notices.accept_connection notices.peer_update notices.request_ltk
+    ended opened_last enqueued taken_from after_taking settled changed connection_of remember le_meta_event connection_complete
+    connection_failed notices.open_connection notices.accept_connection notices.peer_update notices.request_ltk
     notices.advertising_timeout notices.completed notices.drop_in_flight notices.remote_disconnect notices.complete_disconnect
     packets.on_packet data_packet queues family_of other_family modelled listed_row by_row command find
     known.reason_allowed known.disconnect known.set_event_mask known.reset

@@ -21,7 +21,7 @@ use Rattle.state.specs.declared.Masks.{Masks}
 use Rattle.commands.specs.Parts.{with_links}
 use Rattle.commands.specs.Outcome.{Outcome, outcome, done, done_handle, at_link}
 use Rattle.commands.specs.Following.{le_meta_event, remote_version_complete, encryption_change}
-use Rattle.commands.specs.Following.{update_complete, connection_failed}
+use Rattle.commands.specs.Following.{update_complete, connection_complete, connection_failed}
 use Rattle.commands.specs.Leaves.{Follows, follows_code, Modest, Leaves}
 
 -- ---- events that follow
@@ -63,7 +63,7 @@ pub update_behind : (masks : Masks) (handle interval latency timeout : ℕ)
 update_behind masks handle interval latency timeout = le_behind masks 0x03 _ (omega arith)
 
 pub failed_behind : (masks : Masks) (code : ℕ) → Behind (connection_failed masks code)
-unfolding connection_failed
+unfolding connection_failed connection_complete
 failed_behind masks code = search (behind_cond, one_event, le_behind, lit≤, tt)
 
 -- ---- answers

@@ -1,5 +1,6 @@
 -- The laws of what the commands share.
 pub mod Followed
+pub mod Completing
 pub mod Giving
 pub mod Reached
 pub mod Tables

@@ -31,15 +31,28 @@ encryption_change masks handle =
     cond (enabled_by masks.event_page2 25) (event 0x59 (success ∷ le 2 handle ++ 0x01 ∷ 16 ∷ []))
     (event_if (enabled_by masks.event 7) 0x08 (success ∷ le 2 handle ++ 0x01 ∷ []))
 
+-- the parameters of a link, as events have them
+abbrev pub timing_of : ℕ → ℕ → ℕ → List ℕ
+timing_of interval latency timeout = le 2 interval ++ le 2 latency ++ le 2 timeout
+
 -- 7.7.65.3 LE Connection Update Complete
 abbrev pub update_complete : Masks → ℕ → ℕ → ℕ → ℕ → List ℕ
 update_complete masks handle interval latency timeout =
-    le_meta_event masks 0x03 (success ∷ le 2 handle ++ le 2 interval ++ le 2 latency ++ le 2 timeout)
+    le_meta_event masks 0x03 (success ∷ le 2 handle ++ timing_of interval latency timeout)
 
--- a connection that failed: status and zeroes, in the newest form that the masks enable, 7.7.65.10 LE Enhanced Connection
--- Complete v2 (0x29) or v1 (0x0A), or 7.7.65.1 LE Connection Complete
+-- what a connection complete event says of a link: its parameters and the clock accuracy
+abbrev pub connection_tail : ℕ → ℕ → ℕ → ℕ → List ℕ
+connection_tail interval latency timeout accuracy = timing_of interval latency timeout ++ accuracy ∷ []
+
+-- in the newest form that the masks enable, 7.7.65.10 LE Enhanced Connection Complete v2 (0x29) or v1 (0x0A), or 7.7.65.1 LE
+-- Connection Complete: head is status, handle, role and the peer, tail the parameters of the link and the clock accuracy. In the
+-- enhanced forms no resolvable addresses behind the peer, and in version 2 the advertising set and the periodic sync at the end
+unfoldable pub connection_complete : Masks → List ℕ → List ℕ → List ℕ → List ℕ
+connection_complete masks head tail sets =
+    cond (le_event_enabled masks 0x29) (event 0x3E (meta_params 0x29 (head ++ replicate 12 0 ++ tail ++ sets)))
+    (cond (le_event_enabled masks 0x0A) (event 0x3E (meta_params 0x0A (head ++ replicate 12 0 ++ tail)))
+    (le_meta_event masks 0x01 (head ++ tail)))
+
+-- a connection that failed: status and zeroes
 unfoldable pub connection_failed : Masks → ℕ → List ℕ
-connection_failed masks code =
-    cond (le_event_enabled masks 0x29) (event 0x3E (meta_params 0x29 (code ∷ replicate 32 0)))
-    (cond (le_event_enabled masks 0x0A) (event 0x3E (meta_params 0x0A (code ∷ replicate 29 0)))
-    (le_meta_event masks 0x01 (code ∷ replicate 17 0)))
+connection_failed masks code = connection_complete masks (code ∷ replicate 10 0) (replicate 7 0) (replicate 3 0)

@@ -1,11 +1,14 @@
 // The events that follow an answer, under their masks. Each function gives the same answer with the event behind it, or with
 // none where the host has masked it.
-ghost use Rattle.std.specs.Prelude.{◌≤◌, length};
+ghost use Rattle.std.specs.Prelude.{◌≡◌, ◌++◌, ◌≤◌, length, replicate};
+ghost use Rattle.hci.specs.Packet.{event, meta_params};
 ghost use Rattle.answers.specs.Answers.{Follows};
-ghost use Rattle.commands.specs.Following.{event_if, le_meta_event, update_complete, encryption_change, connection_failed};
+ghost use Rattle.commands.specs.Following.{timing_of, le_meta_event, update_complete, encryption_change};
+ghost use Rattle.commands.specs.Following.{connection_tail, connection_complete, connection_failed};
 
 use answers::Answer;
-use hci::event_code::{ENCRYPTION_CHANGE, ENCRYPTION_CHANGE_V2, LE_META};
+use hci::event_code::{ENCRYPTION_CHANGE, ENCRYPTION_CHANGE_V2};
+use hci::mask;
 use hci::status::SUCCESS;
 use hci::subevent::{
     CONNECTION_COMPLETE, CONNECTION_UPDATE_COMPLETE, ENHANCED_CONNECTION_COMPLETE,
@@ -14,50 +17,63 @@ use hci::subevent::{
 use links::Timing;
 use state::Masks;
 
-// An event of at most 37 octets, where it is enabled.
-pub fn followed_by_event(answer: Answer, enabled: bool, code: u8, params: &[u8]) -> Answer
+// An event of at most 37 octets.
+pub fn followed_by_event(answer: Answer, code: u8, params: &[u8]) -> Answer
     requires { length params.now ≤ 34 }
-    ensures { Follows (event_if enabled code params.now) answer result }
+    ensures { Follows (event code params.now) answer result }
 {
-    if !enabled {
-        return answers::followed_by(answer, &[]);
-    }
-    let count = params.len() as u8;
-    let mut event = [0u8; 37];
-    let n = octets::put_two(&mut event, 0, &[hci::H4_EVENT, code, count], params);
+    let mut event = [0; 37];
+    let n = hci::event(code, params, &mut event).unwrap_or(0);
+    answers::followed_by(answer, &event[..n])
+}
+
+// An LE Meta event.
+fn followed_by_subevent(answer: Answer, subevent: u8, params: &[u8]) -> Answer
+    requires { length params.now ≤ 33 }
+    ensures { Follows (event 0x3E (meta_params subevent params.now)) answer result }
+{
+    let mut event = [0; 37];
+    let n = hci::le_meta(subevent, params, &mut event).unwrap_or(0);
     answers::followed_by(answer, &event[..n])
 }
 
 // An LE Meta event, where Event_Mask and LE_Event_Mask enable it.
+#[tactic(auto, unfolding(crate::specs::Following::le_meta_event))]
 pub fn followed_by_le(answer: Answer, masks: Masks, subevent: u8, params: &[u8]) -> Answer
     requires { (length params.now ≤ 33) × ((1 ≤ subevent) × (subevent ≤ 64)) }
     ensures { Follows (le_meta_event masks subevent params.now) answer result }
 {
-    let enabled = state::le_event_enabled(masks, subevent);
-    let mut all = [0u8; 34];
-    let n = octets::put_two(&mut all, 0, &[subevent], params);
-    followed_by_event(answer, enabled, LE_META, &all[..n])
+    if masks.enables_le(subevent) {
+        return followed_by_subevent(answer, subevent, params);
+    }
+    answers::followed_by(answer, &[])
 }
 
-// LE Connection Update Complete (section 7.7.65.3): a link has these parameters.
-pub fn followed_by_update(answer: Answer, masks: Masks, handle: u16, timing: Timing) -> Answer
-    ensures { Follows (update_complete masks handle timing.interval timing.latency timing.timeout) answer result }
+// The three parameters of a link as events have them: two octets each.
+fn timing_octets(timing: Timing) -> [u8; 6]
+    ensures { result ≡ timing_of timing.interval timing.latency timing.timeout }
 {
-    let [low, high] = handle.to_le_bytes();
     let [interval_low, interval_high] = timing.interval.to_le_bytes();
     let [latency_low, latency_high] = timing.latency.to_le_bytes();
     let [timeout_low, timeout_high] = timing.timeout.to_le_bytes();
-    let params = [
-        SUCCESS,
-        low,
-        high,
+    [
         interval_low,
         interval_high,
         latency_low,
         latency_high,
         timeout_low,
         timeout_high,
-    ];
+    ]
+}
+
+// LE Connection Update Complete (section 7.7.65.3): a link has these parameters.
+#[tactic(auto, unfolding(octets::specs::Octets::splice))]
+pub fn followed_by_update(answer: Answer, masks: Masks, handle: u16, timing: Timing) -> Answer
+    ensures { Follows (update_complete masks handle timing.interval timing.latency timing.timeout) answer result }
+{
+    let [low, high] = handle.to_le_bytes();
+    let mut params = [SUCCESS; 9];
+    octets::put_two(&mut params, 1, &[low, high], &timing_octets(timing));
     followed_by_le(answer, masks, CONNECTION_UPDATE_COMPLETE, &params)
 }
 
@@ -67,30 +83,82 @@ pub fn followed_by_encryption_change(answer: Answer, masks: Masks, handle: u16) 
     ensures { Follows (encryption_change masks handle) answer result }
 {
     let [low, high] = handle.to_le_bytes();
-    if (masks.event_page2 >> 25) % 2 == 1 {
+    if masks.enables_page2(mask::PAGE2_ENCRYPTION_CHANGE_V2) {
         return followed_by_event(
             answer,
-            true,
             ENCRYPTION_CHANGE_V2,
-            &[0, low, high, 0x01, 16],
+            &[SUCCESS, low, high, 0x01, 16],
         );
     }
-    let enabled = (masks.event >> 7) % 2 == 1;
-    followed_by_event(answer, enabled, ENCRYPTION_CHANGE, &[0, low, high, 0x01])
+    if masks.enables(mask::ENCRYPTION_CHANGE) {
+        return followed_by_event(answer, ENCRYPTION_CHANGE, &[SUCCESS, low, high, 0x01]);
+    }
+    answers::followed_by(answer, &[])
 }
 
-// A connection that failed, in the newest form of the event that the masks enable.
-#[tactic(auto, unfolding(crate::specs::Following::le_meta_event, crate::specs::Following::connection_failed))]
+// The parameters of LE Connection Complete, in the parts of which each of its forms is made.
+#[derive(Clone, Copy)]
+pub struct ConnectionComplete {
+    // Status, handle, role, and the type of the peer's address.
+    pub head: [u8; 5],
+    pub peer: [u8; 6],
+    pub timing: Timing,
+    pub clock_accuracy: u8,
+    // The advertising set and the periodic sync.
+    pub sets: [u8; 3],
+}
+
+// The parameters of the newest form, version 2 of the enhanced one. Behind the peer's address are the two resolvable private
+// addresses, of which there are none.
+fn newest_params(c: ConnectionComplete) -> [u8; 33]
+    ensures { result ≡ (c.head ++ c.peer) ++ replicate 12 0
+        ++ connection_tail c.timing.interval c.timing.latency c.timing.timeout c.clock_accuracy ++ c.sets }
+{
+    let mut params = [0; 33];
+    let peer_end = octets::put_two(&mut params, 0, &c.head, &c.peer);
+    let at = octets::put_two(&mut params, peer_end, &[0; 12], &timing_octets(c.timing));
+    octets::put_two(&mut params, at, &[c.clock_accuracy], &c.sets);
+    params
+}
+
+// LE Connection Complete, in its newest form that the masks enable (sections 7.7.65.10 and 7.7.65.1). Version 1 of the enhanced
+// form has no sets at its end, and the plain form has no private addresses either.
+#[tactic(auto, unfolding(crate::specs::Following::connection_complete))]
+pub fn followed_by_connection_complete(
+    answer: Answer,
+    masks: Masks,
+    c: ConnectionComplete,
+) -> Answer
+    ensures { Follows (connection_complete masks (c.head ++ c.peer)
+        (connection_tail c.timing.interval c.timing.latency c.timing.timeout c.clock_accuracy) c.sets) answer result }
+{
+    let params = newest_params(c);
+    if masks.enables_le(ENHANCED_CONNECTION_COMPLETE_V2) {
+        return followed_by_subevent(answer, ENHANCED_CONNECTION_COMPLETE_V2, &params);
+    }
+    if masks.enables_le(ENHANCED_CONNECTION_COMPLETE) {
+        return followed_by_subevent(answer, ENHANCED_CONNECTION_COMPLETE, &params[..30]);
+    }
+    let mut plain = [0; 18];
+    octets::put_two(&mut plain, 0, &params[..11], &params[23..30]);
+    followed_by_le(answer, masks, CONNECTION_COMPLETE, &plain)
+}
+
+// A connection that failed: its status, and zeros.
+#[tactic(auto, unfolding(crate::specs::Following::connection_failed))]
 pub fn followed_by_connection_failed(answer: Answer, masks: Masks, code: u8) -> Answer
     ensures { Follows (connection_failed masks code) answer result }
 {
-    let mut params = [0u8; 33];
-    params[0] = code;
-    if state::le_event_enabled(masks, ENHANCED_CONNECTION_COMPLETE_V2) {
-        return followed_by_le(answer, masks, ENHANCED_CONNECTION_COMPLETE_V2, &params);
-    }
-    if state::le_event_enabled(masks, ENHANCED_CONNECTION_COMPLETE) {
-        return followed_by_le(answer, masks, ENHANCED_CONNECTION_COMPLETE, &params[..30]);
-    }
-    followed_by_le(answer, masks, CONNECTION_COMPLETE, &params[..18])
+    let failed = ConnectionComplete {
+        head: [code, 0, 0, 0, 0],
+        peer: [0; 6],
+        timing: Timing {
+            interval: 0,
+            latency: 0,
+            timeout: 0,
+        },
+        clock_accuracy: 0,
+        sets: [0; 3],
+    };
+    followed_by_connection_complete(answer, masks, failed)
 }

@@ -1,7 +1,7 @@
-// What the commands share: the answer beside the state, a part of the state put back, the events that follow an answer, the
-// tests of parameters that more than one command makes, and the table of opcodes and lengths. `specs/` holds the definitions of
-// all commands; their code is in the crates `known`, `air`, `link`, `privacy` and `test_and_power`. For these, and for `command`
-// above them.
+// What the commands share: the answer beside the state, a part of the state put back, the events that
+// follow an answer, the tests of parameters that more than one command makes, and the table of opcodes and lengths. `specs/`
+// holds the definitions of all commands; their code is in the crates `known`, `air`, `link`, `privacy` and `test_and_power`. For
+// these, and for `command` above them.
 #![tactic(auto)]
 
 mod checks;
@@ -13,8 +13,8 @@ mod table;
 pub use checks::{connection_params_valid, has_phy, long_at, phys};
 pub use error::ErrorCode;
 pub use events::{
-    followed_by_connection_failed, followed_by_encryption_change, followed_by_event,
-    followed_by_le, followed_by_update,
+    ConnectionComplete, followed_by_connection_complete, followed_by_connection_failed,
+    followed_by_encryption_change, followed_by_event, followed_by_le, followed_by_update,
 };
 pub use parts::{Answered, StatePart};
 pub use table::{fits, place_of};

@@ -57,23 +57,22 @@ pub fn read_remote_version(
     if !links::has(links, handle) {
         return answers::status(UNKNOWN_CONNECTION);
     }
+    let answer = answers::status(SUCCESS);
+    if !masks.enables(mask::READ_REMOTE_VERSION_COMPLETE) {
+        return answer;
+    }
     let [low, high] = handle.to_le_bytes();
     let [company_low, company_high] = profile.company.to_le_bytes();
     let [subversion_low, subversion_high] = profile.lmp_subversion.to_le_bytes();
-    let enabled = (masks.event >> mask::READ_REMOTE_VERSION_COMPLETE) % 2 == 1;
-    commands::followed_by_event(
-        answers::status(SUCCESS),
-        enabled,
-        READ_REMOTE_VERSION_COMPLETE,
-        &[
-            SUCCESS,
-            low,
-            high,
-            profile.lmp_version,
-            company_low,
-            company_high,
-            subversion_low,
-            subversion_high,
-        ],
-    )
+    let params = [
+        SUCCESS,
+        low,
+        high,
+        profile.lmp_version,
+        company_low,
+        company_high,
+        subversion_low,
+        subversion_high,
+    ];
+    commands::followed_by_event(answer, READ_REMOTE_VERSION_COMPLETE, &params)
 }

@@ -16,8 +16,8 @@ use Rattle.links.specs.Links.{has}
 use Rattle.state.specs.State.{Model, le_event_enabled}
 use Rattle.state.specs.declared.Masks.{Masks}
 use Rattle.commands.specs.Outcome.{Outcome, outcome}
-use Rattle.commands.specs.Following.{enabled_by, le_meta_event, connection_failed}
-use Rattle.notices.specs.Notices.{tells, open_connection, connection_complete, accept_connection, peer_update, request_ltk}
+use Rattle.commands.specs.Following.{enabled_by, le_meta_event, connection_complete, connection_failed}
+use Rattle.notices.specs.Notices.{tells, open_connection, accept_connection, peer_update, request_ltk}
 use Rattle.notices.specs.Notices.{advertising_timeout, drop_in_flight, completed, disconnected, remote_disconnect}
 use Rattle.notices.specs.Notices.{complete_disconnect}
 use Rattle.notices.specs.Tells.{AtMostOne, Tells}
@@ -42,16 +42,15 @@ le_one masks subevent params h =
     event_cond (le_event_enabled masks subevent) (one_event (meta_params subevent params) (omega arith)) no_event
 
 failed_one : (masks : Masks) (code : ℕ) → AtMostOne 0x3E (connection_failed masks code)
-unfolding connection_failed
+unfolding connection_failed connection_complete
 failed_one masks code = search (event_cond, one_event, le_one, lit≤, tt)
 
-connection_one : (masks : Masks) (head tail : List ℕ) → length head ≡ 11 → length tail ≡ 7
-    → AtMostOne 0x3E (connection_complete masks head tail)
+connection_one : (masks : Masks) (head tail sets : List ℕ) → length head ≡ 11 → length tail ≡ 7 → length sets ≡ 3
+    → AtMostOne 0x3E (connection_complete masks head tail sets)
 unfolding connection_complete
-connection_one masks head tail h t =
+connection_one masks head tail sets h t three =
     event_cond (le_event_enabled masks 0x29)
-    (one_event (meta_params 0x29 (head ++ replicate 12 0 ++ tail ++ 0xFF ∷ 0xFF ∷ 0xFF ∷ []))
-    (simp (length-append, h, t) (omega arith)))
+    (one_event (meta_params 0x29 (head ++ replicate 12 0 ++ tail ++ sets)) (simp (length-append, h, t, three) (omega arith)))
     (event_cond (le_event_enabled masks 0x0A)
     (one_event (meta_params 0x0A (head ++ replicate 12 0 ++ tail)) (simp (length-append, h, t) (omega arith)))
     (le_one masks 0x01 _ (simp (length-append, h, t) (omega arith))))
@@ -90,7 +89,7 @@ pub accept_connection_tells : (handle kind : ℕ) (peer : List ℕ) (interval la
     → Tells 0x3E (accept_connection handle kind peer interval latency timeout accuracy m)
 unfolding accept_connection
 accept_connection_tells handle kind peer interval latency timeout accuracy m six =
-    told (connection_one m.masks _ _ (omega arith) refl)
+    told (connection_one m.masks _ _ _ (omega arith) refl refl)
 
 -- without an acknowledgement, however many octets the address has
 pub accept_connection_alone : (handle kind : ℕ) (peer : List ℕ) (interval latency timeout accuracy : ℕ) (m : Model)

@@ -1,17 +1,17 @@
 -- What the link tells the controller, and what the host hears of it (Core Vol 4 Part E section 7.7): each notice as a function of
 -- the state, in the order of the source's functions. A notice has no acknowledgement; `tells` is its event, [] where the host has
 -- masked it or there is none. For the controller's calls, and for the theorem about lists of calls.
-use Rattle.std.specs.Prelude.{ℕ, List, [], ◌∷◌, ◌++◌, cond, eqb, replicate}
+use Rattle.std.specs.Prelude.{ℕ, List, [], ◌∷◌, ◌++◌, cond, eqb}
 use Rattle.octets.specs.Octets.{le}
-use Rattle.hci.specs.Packet.{event, completed_params, meta_params}
+use Rattle.hci.specs.Packet.{event, completed_params}
 use Rattle.answers.specs.Answers.{AnswerModel, silent, followed}
 use Rattle.links.specs.Links.{new_connection, opened_last, ended, settled, changed, has}
 use Rattle.links.specs.Fields.{with_parameters, with_ltk_requested}
-use Rattle.state.specs.State.{Model, le_event_enabled}
-use Rattle.state.specs.declared.Masks.{Masks}
+use Rattle.state.specs.State.{Model}
 use Rattle.commands.specs.Parts.{with_advertising, with_links, with_enabled}
 use Rattle.commands.specs.Outcome.{Outcome, outcome}
-use Rattle.commands.specs.Following.{event_if, enabled_by, le_meta_event, update_complete, connection_failed}
+use Rattle.commands.specs.Following.{event_if, enabled_by, le_meta_event, update_complete}
+use Rattle.commands.specs.Following.{connection_tail, connection_complete, connection_failed}
 
 abbrev pub tells : List ℕ → AnswerModel
 tells octets = followed octets silent
@@ -29,27 +29,18 @@ request_ltk handle random diversifier m =
     (with_links (changed handle (with_ltk_requested 1) m.links) m))
     (outcome silent m)
 
--- 7.7.65.1 LE Connection Complete and 7.7.65.10 LE Enhanced Connection Complete: status, handle, role (0x01 peripheral), the
--- peer, the parameters and the clock accuracy; in the enhanced forms no resolvable addresses behind the peer, and in version 2 no
--- advertising set and no periodic sync at the end
+-- 7.7.65.1 LE Connection Complete and 7.7.65.10 LE Enhanced Connection Complete begin with status, handle, role (0x01
+-- peripheral) and the peer
 abbrev pub connection_head : ℕ → ℕ → List ℕ → List ℕ
 connection_head handle kind peer = 0x00 ∷ le 2 handle ++ 0x01 ∷ kind ∷ peer
 
-abbrev pub connection_tail : ℕ → ℕ → ℕ → ℕ → List ℕ
-connection_tail interval latency timeout accuracy = le 2 interval ++ le 2 latency ++ le 2 timeout ++ accuracy ∷ []
-
--- in the newest form that the masks enable
-unfoldable pub connection_complete : Masks → List ℕ → List ℕ → List ℕ
-connection_complete masks head tail =
-    cond (le_event_enabled masks 0x29) (event 0x3E (meta_params 0x29 (head ++ replicate 12 0 ++ tail ++ 0xFF ∷ 0xFF ∷ 0xFF ∷ [])))
-    (cond (le_event_enabled masks 0x0A) (event 0x3E (meta_params 0x0A (head ++ replicate 12 0 ++ tail)))
-    (le_meta_event masks 0x01 (head ++ tail)))
-
--- a central's request to connect: advertising ends and the link opens, also where its event is masked
+-- a central's request to connect: advertising ends and the link opens, also where its event is masked, which has no advertising
+-- set and no periodic sync
 unfoldable pub accept_connection : ℕ → ℕ → List ℕ → ℕ → ℕ → ℕ → ℕ → Model → Outcome
 accept_connection handle kind peer interval latency timeout accuracy m =
     outcome
-    (tells (connection_complete m.masks (connection_head handle kind peer) (connection_tail interval latency timeout accuracy)))
+    (tells (connection_complete m.masks (connection_head handle kind peer) (connection_tail interval latency timeout accuracy)
+    (0xFF ∷ 0xFF ∷ 0xFF ∷ [])))
     (with_links (opened_last (new_connection handle interval latency timeout) m.links)
     (with_advertising (with_enabled 0 m.advertising) m))
 

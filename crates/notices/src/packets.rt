@@ -36,6 +36,6 @@ pub fn completed(s: Controller, handle: u16, count: u16) -> Answered<Links>
     let params = [1, low, high, count_low, count_high];
     Answered {
         part: links::settle(s.links, count),
-        answer: commands::followed_by_event(answer, true, NUMBER_OF_COMPLETED_PACKETS, &params),
+        answer: commands::followed_by_event(answer, NUMBER_OF_COMPLETED_PACKETS, &params),
     }
 }

@@ -13,7 +13,7 @@ use filters::{AcceptList, ResolvingList};
 pub use history::remember;
 pub use hold::holds;
 use links::Links;
-pub use look::{accept_list_in_use, busy, le_event_enabled};
+pub use look::{accept_list_in_use, busy};
 pub use start::{default_state, reset};
 
 // Which events the host has enabled (Core Vol 4 Part E sections 7.3.1, 7.3.69 and 7.8.1).

@@ -1,10 +1,12 @@
 // What the commands ask of the state before they change it.
-ghost use Rattle.std.specs.Prelude.{◌≡◌, ℕ, ◌≤◌, List};
+ghost use Rattle.std.specs.Prelude.{◌≡◌, ℕ, ◌<◌, List, ◌==◌};
+ghost use Rattle.hci.specs.Bits.{bit_of};
 ghost use Rattle.state.specs.State.{busy as is_busy};
-ghost use Rattle.state.specs.State.{view, advertising_of, accept_list_in_use, le_event_enabled};
+ghost use Rattle.state.specs.State.{view, advertising_of, accept_list_in_use};
 ghost use Rattle.state.specs.State.{advertiser_filters, scanner_filters, initiator_filters};
 
 use crate::{Advertising, Controller, Masks, Scanning};
+use hci::mask;
 
 // Whether the link layer is busy: advertising, scanning or initiating.
 pub fn busy(s: Controller) -> bool
@@ -40,10 +42,40 @@ fn initiator_filters(scanning: Scanning) -> bool
     scanning.initiating != 0 && scanning.initiator_filter != 0
 }
 
-// Whether the host has enabled an LE Meta subevent.
-pub fn le_event_enabled(masks: Masks, subevent: u8) -> bool
-    requires { (1 ≤ subevent) × (subevent ≤ 64) }
-    ensures { result ≡ le_event_enabled masks subevent }
+// Whether a mask has a bit.
+fn has_bit(mask: u64, bit: u32) -> bool
+    requires { bit < 64 }
+    ensures { result ≡ (bit_of mask bit == 1) }
 {
-    (masks.event >> 61) % 2 == 1 && (masks.le_event >> (subevent - 1)) % 2 == 1
+    (mask >> bit) % 2 == 1
+}
+
+impl Masks {
+    ghost use Rattle.std.specs.Prelude.{◌≡◌, ◌<◌, ◌≤◌, ◌==◌};
+    ghost use Rattle.hci.specs.Bits.{bit_of};
+    ghost use Rattle.state.specs.State.{le_event_enabled};
+
+    // Whether Event_Mask has this bit, one of `hci::mask`.
+    pub fn enables(self, bit: u32) -> bool
+        requires { bit < 64 }
+        ensures { result ≡ (bit_of self.event bit == 1) }
+    {
+        has_bit(self.event, bit)
+    }
+
+    // Whether Event_Mask_Page_2 has it.
+    pub fn enables_page2(self, bit: u32) -> bool
+        requires { bit < 64 }
+        ensures { result ≡ (bit_of self.event_page2 bit == 1) }
+    {
+        has_bit(self.event_page2, bit)
+    }
+
+    // Whether the host has enabled an LE Meta subevent, whose bit is its code less one.
+    pub fn enables_le(self, subevent: u8) -> bool
+        requires { (1 ≤ subevent) × (subevent ≤ 64) }
+        ensures { result ≡ le_event_enabled self subevent }
+    {
+        self.enables(mask::LE_META) && has_bit(self.le_event, u32::from(subevent - 1))
+    }
 }
