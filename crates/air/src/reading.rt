@@ -3,7 +3,6 @@ ghost use Rattle.commands.specs.Air.{read_buffer_size, read_local_features, read
 ghost use Rattle.commands.specs.Outcome.{Answers};
 
 use answers::Answer;
-use hci::status::SUCCESS;
 use profile::ControllerRow;
 
 // LE Read Buffer Size (section 7.8.2).
@@ -12,7 +11,7 @@ pub fn read_buffer_size(profile: ControllerRow) -> Answer
     ensures { Answers (read_buffer_size profile) result }
 {
     let [low, high] = profile.acl_len.to_le_bytes();
-    answers::complete(&[SUCCESS, low, high, profile.acl_count])
+    commands::succeeded(&[low, high, profile.acl_count])
 }
 
 // LE Read Local Supported Features (section 7.8.3).
@@ -20,8 +19,7 @@ pub fn read_buffer_size(profile: ControllerRow) -> Answer
 pub fn read_local_features(profile: ControllerRow) -> Answer
     ensures { Answers (read_local_features profile) result }
 {
-    let f = profile.le_features.to_le_bytes();
-    answers::complete(&[SUCCESS, f[0], f[1], f[2], f[3], f[4], f[5], f[6], f[7]])
+    commands::succeeded(&profile.le_features.to_le_bytes())
 }
 
 // LE Read Advertising Physical Channel Tx Power (section 7.8.6).
@@ -29,7 +27,7 @@ pub fn read_local_features(profile: ControllerRow) -> Answer
 pub fn read_advertising_power(profile: ControllerRow) -> Answer
     ensures { Answers (read_advertising_power profile) result }
 {
-    answers::complete(&[SUCCESS, profile.adv_tx_power.cast_unsigned()])
+    commands::succeeded(&[profile.adv_tx_power.cast_unsigned()])
 }
 
 // LE Read Filter Accept List Size (section 7.8.14).
@@ -37,5 +35,5 @@ pub fn read_advertising_power(profile: ControllerRow) -> Answer
 pub fn read_accept_list_size(profile: ControllerRow) -> Answer
     ensures { Answers (read_accept_list_size profile) result }
 {
-    answers::complete(&[SUCCESS, profile.accept_list_size])
+    commands::succeeded(&[profile.accept_list_size])
 }

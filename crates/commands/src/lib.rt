@@ -1,4 +1,4 @@
-// What the commands share: the answer beside the state, a part of the state put back, the events that
+// What the commands share: the answer beside the state, a part of the state put back, answers that return octets, the events that
 // follow an answer, the tests of parameters that more than one command makes, and the table of opcodes and lengths. `specs/`
 // holds the definitions of all commands; their code is in the crates `known`, `air`, `link`, `privacy` and `test_and_power`. For
 // these, and for `command` above them.
@@ -8,6 +8,7 @@ mod checks;
 mod error;
 mod events;
 mod parts;
+mod returned;
 mod table;
 
 pub use checks::{connection_params_valid, has_phy, long_at, phys};
@@ -17,4 +18,5 @@ pub use events::{
     followed_by_encryption_change, followed_by_event, followed_by_le, followed_by_update,
 };
 pub use parts::{Answered, StatePart};
+pub use returned::{about, succeeded};
 pub use table::{fits, place_of};

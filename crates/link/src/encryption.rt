@@ -5,7 +5,6 @@ ghost use Rattle.commands.specs.Link.{encrypt as encrypt_of};
 ghost use Rattle.commands.specs.Link.{rand as rand_of};
 
 use answers::Answer;
-use hci::status::SUCCESS;
 
 // Sixteen octets from index at, the last first.
 fn reversed(p: &[u8], at: usize) -> [u8; 16]
@@ -27,9 +26,7 @@ pub fn encrypt(p: &[u8; 32]) -> Answer
     let block = reversed(p, 16);
     let mut out = aes::encrypt_128(key, block);
     out.reverse();
-    let mut returned = [SUCCESS; 17];
-    returned[1..].copy_from_slice(&out);
-    answers::complete(&returned)
+    commands::succeeded(&out)
 }
 
 // LE Rand (section 7.8.23): the eight random octets handed in.
@@ -37,7 +34,5 @@ pub fn encrypt(p: &[u8; 32]) -> Answer
 pub fn rand(random: u64) -> Answer
     ensures { Answers (rand_of random) result }
 {
-    let mut returned = [SUCCESS; 9];
-    returned[1..].copy_from_slice(&random.to_le_bytes());
-    answers::complete(&returned)
+    commands::succeeded(&random.to_le_bytes())
 }

@@ -19,11 +19,10 @@ pub fn read_channel_map(links: Links, p: &[u8; 2]) -> Answer
     ensures { Answers (read_channel_map p.now (opened links)) result }
 {
     let handle = octets::word_at(p, 0);
-    let [low, high] = handle.to_le_bytes();
     if links::has(links, handle) {
-        return answers::complete(&[SUCCESS, low, high, 0xFF, 0xFF, 0xFF, 0xFF, 0x1F]);
+        return commands::about(SUCCESS, handle, &[0xFF, 0xFF, 0xFF, 0xFF, 0x1F]);
     }
-    answers::complete(&[UNKNOWN_CONNECTION, low, high, 0, 0, 0, 0, 0])
+    commands::about(UNKNOWN_CONNECTION, handle, &[0; 5])
 }
 
 // LE Read Remote Features (section 7.8.21): the virtual central reports the controller's own features.

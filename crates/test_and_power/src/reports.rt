@@ -4,7 +4,6 @@ ghost use Rattle.commands.specs.Outcome.{Answers};
 ghost use Rattle.commands.specs.Test.{read_supported_states, read_maximum_advertising_length, read_advertising_sets};
 
 use answers::Answer;
-use hci::status::SUCCESS;
 use profile::ControllerRow;
 
 // LE Read Supported States (section 7.8.27).
@@ -12,9 +11,7 @@ use profile::ControllerRow;
 pub fn read_supported_states(profile: ControllerRow) -> Answer
     ensures { Answers (read_supported_states profile) result }
 {
-    let mut returned = [SUCCESS; 9];
-    returned[1..].copy_from_slice(&profile.supported_states);
-    answers::complete(&returned)
+    commands::succeeded(&profile.supported_states)
 }
 
 // LE Read Maximum Advertising Data Length (section 7.8.57).
@@ -22,8 +19,7 @@ pub fn read_supported_states(profile: ControllerRow) -> Answer
 pub fn read_maximum_advertising_length(profile: ControllerRow) -> Answer
     ensures { Answers (read_maximum_advertising_length profile) result }
 {
-    let [low, high] = profile.max_adv_data_len.to_le_bytes();
-    answers::complete(&[SUCCESS, low, high])
+    commands::succeeded(&profile.max_adv_data_len.to_le_bytes())
 }
 
 // LE Read Number of Supported Advertising Sets (section 7.8.58).
@@ -31,5 +27,5 @@ pub fn read_maximum_advertising_length(profile: ControllerRow) -> Answer
 pub fn read_advertising_sets(profile: ControllerRow) -> Answer
     ensures { Answers (read_advertising_sets profile) result }
 {
-    answers::complete(&[SUCCESS, profile.adv_sets])
+    commands::succeeded(&[profile.adv_sets])
 }

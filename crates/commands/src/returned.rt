@@ -1,0 +1,36 @@
+// Answers of Command Complete that return more than a status.
+ghost use Rattle.std.specs.Prelude.{◌∷◌, ◌++◌, ◌+◌, ◌≤◌, length};
+ghost use Rattle.octets.specs.Octets.{le};
+ghost use Rattle.answers.specs.Answers.{complete};
+ghost use Rattle.commands.specs.Status.{success};
+ghost use Rattle.commands.specs.Outcome.{Answers};
+
+use answers::Answer;
+use hci::status::SUCCESS;
+
+// The octets of head, and those of body behind them.
+fn returned(head: &[u8], body: &[u8]) -> Answer
+    requires { length head.now + length body.now ≤ 65 }
+    ensures { Answers (complete (head.now ++ body.now)) result }
+{
+    let mut all = [0; 65];
+    let n = octets::put_two(&mut all, 0, head, body);
+    answers::complete(&all[..n])
+}
+
+// Success, and these octets behind it.
+pub fn succeeded(octets: &[u8]) -> Answer
+    requires { length octets.now ≤ 64 }
+    ensures { Answers (complete (success ∷ octets.now)) result }
+{
+    returned(&[SUCCESS], octets)
+}
+
+// A status, the handle of a link, and these octets behind it.
+pub fn about(code: u8, handle: u16, octets: &[u8]) -> Answer
+    requires { length octets.now ≤ 62 }
+    ensures { Answers (complete (code ∷ le 2 handle ++ octets.now)) result }
+{
+    let [low, high] = handle.to_le_bytes();
+    returned(&[code, low, high], octets)
+}
