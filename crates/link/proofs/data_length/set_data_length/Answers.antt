@@ -8,5 +8,6 @@ use Rattle.link.proofs.data_length.set_data_length.Goals as goal
 pub returns : goal.returns
 unfolding set_data_length
 returns c k held =
-    gives_changed c.word_at-handle.result (with_data_length c.new_data_length-new.result.octets c.new_data_length-new.result.time) (λ x. refl)
-    c.set_data_length.ensures c.data_length_change.ensures (λ size pool. search rules) held
+    let new = c.new_data_length-new.result in
+    gives_changed c.word_at-handle.result (with_data_length new.octets new.time) (λ x. refl) c.set_data_length.ensures
+    c.data_length_change.ensures (λ size pool. search rules) held
