@@ -15,6 +15,7 @@ pub struct AcceptList {
 
 impl AcceptList {
     // The empty list.
+    #[tactic(auto, unfolding(lists::specs::Lists::chunks))]
     pub fn new() -> AcceptList
         ensures { accept_entries result ≡ [] }
     {

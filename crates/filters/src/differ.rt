@@ -26,6 +26,7 @@ pub fn entries_differ(octets: &[u8], width: usize, n: usize) -> bool
 }
 
 // The lowest four octets of the address of the entry that stands from index at on, as a number.
+#[tactic(auto, unfolding(crate::specs::Keys::low_of))]
 fn low_at(octets: &[u8], at: usize) -> u32
     requires { at + 7 ≤ length octets.now }
     ensures { result ≡ low_of (drop at octets.now) }

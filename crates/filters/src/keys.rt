@@ -1,11 +1,13 @@
 // The entries of a flat list told apart by their type and address, seven octets that are read as one number: for both
-// lists. An entry has `width` octets, of which the first seven count; n entries are in use.
+// lists. An entry has `width` octets, of which the first seven count; n entries are in use. A type for octets, width and n would
+// be made anew at each of seven calls, by a function that asks for the same of them: no plainer.
 ghost use Rattle.std.specs.Prelude.{◌≡◌, ◌+◌, ◌-◌, ◌*◌, ◌≤◌, ◌<◌, length, drop, position, IfSome};
 ghost use Rattle.lists.specs.Lists.{chunks};
 ghost use Rattle.filters.specs.Filters.{has_identity};
 ghost use Rattle.filters.specs.Keys.{key_of, without_place};
 
 // The number of an entry's seven octets, lowest first.
+#[tactic(auto, unfolding(crate::specs::Keys::key_of))]
 pub fn key_of(entry: [u8; 7]) -> u64
     ensures { result ≡ key_of entry }
 {

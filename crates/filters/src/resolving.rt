@@ -16,6 +16,7 @@ pub struct ResolvingList {
 
 impl ResolvingList {
     // The empty list.
+    #[tactic(auto, unfolding(lists::specs::Lists::chunks))]
     pub fn new() -> ResolvingList
         ensures { resolving_entries result ≡ [] }
     {

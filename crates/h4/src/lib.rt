@@ -116,6 +116,7 @@ impl H4Stream {
     }
 
     // Hands out the packet of the last feed that starts at index at, as a part of the buffer: empty where there is none.
+    #[tactic(auto, using(crate::proofs::Handing::packet_lent))]
     pub fn packet_at(self, buffer: &[u8], at: usize) -> &[u8]
         ensures { result.now ≡ packet_at (take self.ready buffer.now) at }
     {

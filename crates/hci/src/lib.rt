@@ -130,6 +130,7 @@ pub const ASYNC_OPCODES: [u16; 52] = [
 ];
 
 // Whether an opcode is one of these.
+#[tactic(auto, using(lists::proofs::Search::any_list_any), unfolding(crate::specs::Opcode::is_async))]
 pub fn is_async(op: u16) -> bool
     ensures { result ≡ is_async op }
 {

@@ -49,6 +49,7 @@ fn discard_waiting(mut links: Links, handle: u16) -> Links
 }
 
 // The end of a link: its connection and its queue go, what is in flight stays in use.
+#[tactic(auto, using(crate::proofs::Changing::ended_lists, crate::proofs::Changing::ended_view))]
 pub fn end_connection(links: Links, handle: u16) -> Links
     requires { CountsFit links }
     ensures viewed { (size : ℕ) (pool : List ℕ) → view result size pool ≡ ended handle (view links size pool) }
