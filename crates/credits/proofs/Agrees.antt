@@ -1,5 +1,5 @@
 -- The host's book agrees with the state, and each change of the buffers keeps that. For the proof of `credits`.
-use mathlib.Core.Path.{◌≡◌, refl, sym, ◌∙◌, ap, fun_ext}
+use mathlib.Core.Path.{◌≡◌, refl, sym, ◌∙◌, fun_ext}
 use mathlib.Core.Bool.{Bool, true, false, ◌||◌, or-false, or-true}
 use mathlib.Core.List.{[], ◌∷◌, ◌++◌}
 use Prim.Native.Nat.{ℕ, ◌+◌, ◌-◌, ◌≤◌, ◌<◌}
@@ -15,7 +15,7 @@ use Rattle.credits.specs.Credits.{heard, heard_all, book, in_use}
 use Rattle.credits.specs.Steps.{has, others, State, initial, queued, ended, opened, given, after_take, settled, events}
 use Rattle.credits.specs.Steps.{opened_link, packets, at}
 use Rattle.credits.proofs.Sums.{put_own, sum_cong, sum_zero, sum_add, sum_put, sum_at}
-use Rattle.credits.proofs.Handles.{times, never, has_others_same, has_others, times_others_same, times_others, others_none}
+use Rattle.credits.proofs.Handles.{times, has_others_same, has_others, times_others_same, times_others, others_none}
 use Rattle.credits.proofs.Handles.{has_last, times_last_same, times_last, times_left_same, times_left, taken_times, length_sum}
 
 pub record Agrees (s : State) (b : Book) : Type 0 where
@@ -34,7 +34,7 @@ agrees_reset b = record {
   owes = λ h. refl;
   shut = λ h p. refl;
   flying = omega (arith, sum_zero 0x10000);
-  small = λ h p. never false p refl;
+  small = λ h p. cc;
   tells = refl;
 }
 
@@ -60,7 +60,7 @@ module _ {s : State} {b : Book} (i : Agrees s b) where
 
   -- two handles, one of which has a link
   apart : (x h : ℕ) → has h s.buffers.handles ≡ true → has x s.buffers.handles ≡ false → eqb x h ≡ false
-  apart x h p q = ne_eqb x h (λ e. never (has h s.buffers.handles) p (ap (λ y. has y s.buffers.handles) (sym e) ∙ q))
+  apart x h p q = ne_eqb x h (λ e. cc)
 
   -- bit 4 of the event mask is set again
   pub agrees_masked : (bit : Bool) → bit ≡ true

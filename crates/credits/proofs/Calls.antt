@@ -1,9 +1,9 @@
 -- One call, refused or accepted: if host and link keep their parts at it, the book still agrees with the state after it, and a
 -- data packet was kept. For the proof of `credits`.
 use mathlib.Core.Path.{◌≡◌, refl, sym, ◌∙◌}
-use mathlib.Core.Bool.{true, false, cond}
+use mathlib.Core.Bool.{true, cond}
 use mathlib.Core.List.{[], ◌∷◌}
-use Prim.Native.Nat.{ℕ, zero, suc, ◌≤◌, ◌<◌}
+use Prim.Native.Nat.{ℕ, ◌≤◌, ◌<◌}
 use native.Mathlib.Omega.{arith}
 use lib.Dec.{eqb}
 use borrow.Author.Tests.{eqb-true, eqb-false}
@@ -14,7 +14,7 @@ use Rattle.credits.specs.Credits.{dropping, report, event_mask_set, Answer, Book
 use Rattle.credits.specs.Credits.{OpensUnused, Unmasked, ReportsTaken, DropsEnded, DropsNoOther, LinkKeeps, Buffers, Kept}
 use Rattle.credits.specs.Steps.{State, settled, fits, received, may_pass, events, opened_link, at, Step, refusal, pass, reset}
 use Rattle.credits.specs.Steps.{mask, receive, connect, take, complete, discard, disconnect}
-use Rattle.credits.proofs.Handles.{never, times_last_same}
+use Rattle.credits.proofs.Handles.{times_last_same}
 use Rattle.credits.proofs.Bounds.{fits_parts, fits_all}
 use Rattle.credits.proofs.Agrees.{Agrees, agrees_reset, counts, agrees_masked, agrees_queued, agrees_opened, agrees_taken}
 use Rattle.credits.proofs.Agrees.{agrees_reported, agrees_none, agrees_ended, agrees_dropped}
@@ -29,39 +29,31 @@ pub record Obeys (k : Profile) (b : Book) (c : Call) (a : Answer) : Type 0 where
 -- ---- the premise about drops
 -- a call that is no drop comes when `ended` is 0
 none_ended : (b : Book) (c : Call) → DropsEnded b c → ((n : ℕ) → c ≡ dropping n → ⊥) → b.ended ≡ 0
-none_ended b c w unless = go b.ended refl
-  where
-    go : (n : ℕ) → b.ended ≡ n → b.ended ≡ 0
-    go zero e = e
-    go (suc n) e = let x = w (omega arith) in absurd (unless x.0 x.1)
+none_ended b c w unless =
+    cases (eqb b.ended 0) (λ e. eqb-true b.ended 0 e)
+    (λ e. let x = w (omega (arith, eqb-false b.ended 0 e)) in absurd (unless x.0 x.1))
 
 -- a drop is of at most `ended`
 at_most_ended : (n : ℕ) (b : Book) → DropsEnded b (dropping n) → DropsNoOther b (dropping n) → n ≤ b.ended
-at_most_ended n b w other = go b.ended refl
-  where
-    go : (m : ℕ) → b.ended ≡ m → n ≤ b.ended
-    go zero e = omega (arith, other n refl e)
-    go (suc m) e =
-        let x = w (omega arith) in
-        let z : dropping n ≡ dropping x.0 = x.1 in
-        let y : n ≡ x.0 = cc in
-        omega (arith, x.2)
+at_most_ended n b w other =
+    cases (eqb b.ended 0) (λ e. omega (arith, other n refl (eqb-true b.ended 0 e)))
+    (λ e. let x = w (omega (arith, eqb-false b.ended 0 e)) in let y : n ≡ x.0 = cc in omega (arith, x.2))
 
 -- ---- a call that does nothing
 book_passed : (b : Book) (c : Call) → may_pass c ≡ true → book b c (events []) ≡ b
 unfolding book noted heard_all
-book_passed b (packet (acl d)) e = never false e refl
+book_passed b (packet (acl d)) e = cc
 book_passed b (packet bad_header) e = refl
 book_passed b (packet (set_event_mask bit)) e = refl
 book_passed b (packet Packet.other) e = refl
-book_passed b (opening h) e = never false e refl
-book_passed b (taking h) e = never false e refl
-book_passed b (completed h n) e = never false e refl
-book_passed b (dropping n) e = never false e refl
+book_passed b (opening h) e = cc
+book_passed b (taking h) e = cc
+book_passed b (completed h n) e = cc
+book_passed b (dropping n) e = cc
 book_passed b Call.other e = refl
 
 kept_passed : (k : Profile) (b : Book) (c : Call) (s : Buffers) → may_pass c ≡ true → WellFormed k b c → Kept c s s
-kept_passed k b (packet (acl d)) s e w = never false e refl
+kept_passed k b (packet (acl d)) s e w = cc
 kept_passed k b (packet bad_header) s e w = w
 kept_passed k b (packet (set_event_mask bit)) s e w = tt
 kept_passed k b (packet Packet.other) s e w = tt
@@ -76,8 +68,7 @@ module _ (k : Profile) {s : State} {b : Book} (i : Agrees s b) where
   -- a packet of a host that keeps the rule is queued
   received_fits : (d : Header) → WellFormed k b (packet (acl d)) → DropsEnded b (packet (acl d)) → fits k d s.buffers ≡ true
   received_fits d w drops =
-      let none : b.ended ≡ 0 =
-      none_ended b (packet (acl d)) drops (λ m e. absurd (let z : ◌≡◌ {A = ℕ} 0 1 = cc in omega arith)) in
+      let none : b.ended ≡ 0 = none_ended b (packet (acl d)) drops (λ m e. cc) in
       fits_all k d s.buffers
       (omega (arith, w.no_broadcast))
       (omega (arith, w.boundary))
@@ -106,7 +97,7 @@ pub step_agrees : {k : Profile} {c : Call} {s t : State} {a : Answer} {b : Book}
     → (a.accepted ≡ true → Obeys k b c a)
     → Agrees t (book b c a) × (a.accepted ≡ true → Kept c s.buffers t.buffers)
 unfolding book any
-step_agrees {a = a} (refusal f e) i w = (rw (e, f) i, λ y. never a.accepted y f)
+step_agrees {a = a} (refusal f e) i w = (rw (e, f) i, λ y. cc)
 step_agrees {k} {c} {s} {b = b} (pass p e q) i w =
     let v : Obeys k b c (events []) = rw q at (w (rw q)) in
     (rw (e, q, book_passed b c p) i, λ y. rw e (kept_passed k b c s.buffers p v.rule))

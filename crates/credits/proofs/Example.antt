@@ -11,13 +11,12 @@ use lib.Dec.{lit<, lit≤}
 use Rattle.lists.specs.Lists.{any, keep, taken, leaving}
 use Rattle.credits.specs.Credits.{Header, Packet, acl, bad_header, set_event_mask, Call, packet, opening, taking, completed}
 use Rattle.credits.specs.Credits.{dropping, report, disconnected, reset_done, event_mask_set, Answer, Book, blank, unacknowledged}
-use Rattle.credits.specs.Credits.{sum_below, put, noted, heard, heard_all, book, Profile, FitToSend, WellFormed, OpensUnused}
-use Rattle.credits.specs.Credits.{Unmasked, ReportsTaken, DropsEnded, DropsNoOther, Reading, Made, Chained, last_of, call_of}
+use Rattle.credits.specs.Credits.{sum_below, put, noted, heard, heard_all, book, Profile, FitToSend, WellFormed}
+use Rattle.credits.specs.Credits.{Reading, Made, Chained, last_of, call_of}
 use Rattle.credits.specs.Credits.{answer_of, book_after, AllAlong, Premises, NothingDropped, CreditsHold}
 use Rattle.credits.specs.Steps.{State, initial, fits, events, opened_link, packets, Step, refusal, pass, reset, mask, receive}
 use Rattle.credits.specs.Steps.{connect, take, complete, discard, disconnect}
 use Rattle.credits.proofs.Sums.{sum_zero, sum_put}
-use Rattle.credits.proofs.Handles.{never}
 use Rattle.credits.proofs.Calls.{Obeys}
 use Rattle.credits.proofs.Credits.{credits}
 
@@ -125,73 +124,53 @@ kind (completed h n) = 3
 kind (dropping n) = 4
 kind Call.other = 0
 
-not_masking : (a : Answer) (c : Call) → (kind c ≡ 1 → ⊥) → Unmasked c a
-not_masking a c n bit e u = absurd (n (ap kind e))
-
-module _ (b : Book) where
-  not_opening : (a : Answer) (c : Call) → (kind c ≡ 2 → ⊥) → OpensUnused b c a
-  not_opening a c n h e u = absurd (n (ap kind e))
-
-  not_completing : (c : Call) → (kind c ≡ 3 → ⊥) → ReportsTaken b c
-  not_completing c n h m e u = absurd (n (ap kind e))
-
-  not_dropping : (c : Call) → (kind c ≡ 4 → ⊥) → DropsNoOther b c
-  not_dropping c n m e u = absurd (n (ap kind e))
-
-  none_ended : (c : Call) → b.ended ≡ 0 → DropsEnded b c
-  none_ended c e p = absurd (omega arith)
-
 module _ {k : Profile} {b : Book} {a : Answer} where
   obeys_other : (c : Call) → kind c ≡ 0 → WellFormed k b c → b.ended ≡ 0 → Obeys k b c a
   obeys_other c z w e = record {
     rule = w;
-    unmasked = not_masking a c (λ x. omega arith);
-    unused = not_opening b a c (λ x. omega arith);
-    link = (not_completing b c (λ x. omega arith), none_ended b c e, not_dropping b c (λ x. omega arith));
+    unmasked = λ bit p u. absurd (let x = ap kind p in omega arith);
+    unused = λ h p u. absurd (let x = ap kind p in omega arith);
+    link = (
+      λ h n p u. absurd (let x = ap kind p in omega arith),
+      λ u. absurd (omega arith),
+      λ n p u. absurd (let x = ap kind p in omega arith),
+    );
   }
 
   obeys_mask : b.ended ≡ 0 → Obeys k b (packet (set_event_mask true)) a
   obeys_mask e = record {
     rule = tt;
-    unmasked = λ bit p u. let same : true ≡ bit = cc in rw (← same) refl;
-    unused = not_opening b a (packet (set_event_mask true)) (λ x. omega arith);
-    link = (
-      not_completing b (packet (set_event_mask true)) (λ x. omega arith),
-      none_ended b (packet (set_event_mask true)) e,
-      not_dropping b (packet (set_event_mask true)) (λ x. omega arith),
-    );
+    unmasked = λ bit p u. cc;
+    unused = λ h p u. cc;
+    link = (λ h n p u. cc, λ u. absurd (omega arith), λ n p u. cc);
   }
 
   obeys_opening : (h : ℕ) → b.is_open h ≡ false → b.ended ≡ 0 → Obeys k b (opening h) a
   obeys_opening h o e = record {
     rule = tt;
-    unmasked = not_masking a (opening h) (λ x. omega arith);
+    unmasked = λ bit p u. cc;
     unused = λ g p u. let same : h ≡ g = cc in rw (← same) o;
-    link = (
-      not_completing b (opening h) (λ x. omega arith),
-      none_ended b (opening h) e,
-      not_dropping b (opening h) (λ x. omega arith),
-    );
+    link = (λ g n p u. cc, λ u. absurd (omega arith), λ n p u. cc);
   }
 
   obeys_completed : (h n : ℕ) → b.is_open h ≡ true → n ≤ b.out h → b.ended ≡ 0 → Obeys k b (completed h n) a
   obeys_completed h n o l e = record {
     rule = tt;
-    unmasked = not_masking a (completed h n) (λ x. omega arith);
-    unused = not_opening b a (completed h n) (λ x. omega arith);
+    unmasked = λ bit p u. cc;
+    unused = λ g p u. cc;
     link = (
       λ g m p u. let same : h ≡ g = cc in let alike : n ≡ m = cc in rw (← same, ← alike) (o, l),
-      none_ended b (completed h n) e,
-      not_dropping b (completed h n) (λ x. omega arith),
+      λ u. absurd (omega arith),
+      λ m p u. cc,
     );
   }
 
   obeys_dropping : (n : ℕ) → n ≤ b.ended → 0 < b.ended → Obeys k b (dropping n) a
   obeys_dropping n l p = record {
     rule = tt;
-    unmasked = not_masking a (dropping n) (λ x. omega arith);
-    unused = not_opening b a (dropping n) (λ x. omega arith);
-    link = (not_completing b (dropping n) (λ x. omega arith), λ u. (n, refl, l), λ m e u. absurd (omega arith));
+    unmasked = λ bit e u. cc;
+    unused = λ h e u. cc;
+    link = (λ h m e u. cc, λ u. (n, refl, l), λ m e u. absurd (omega arith));
   }
 
 -- ---- the run meets the premises
@@ -239,7 +218,7 @@ run_obeys =
     and (λ x. obeys_other (taking 1) refl tt refl)
     and (λ x. obeys_other (taking 2) refl tt refl)
     and (λ x. obeys_completed 1 1 refl (lit≤ tt) refl)
-    and (λ x. never false x refl)
+    and (λ x. cc)
     and (λ x. obeys_other Call.other refl tt refl)
     and (λ x. obeys_other Call.other refl tt refl)
     and (λ x. obeys_other Call.other refl tt refl)

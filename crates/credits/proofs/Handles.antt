@@ -22,10 +22,6 @@ use Rattle.credits.proofs.Sums.{sum_cong, sum_zero, sum_put}
 abbrev pub times : ℕ → List ℕ → ℕ
 times h l = length (keep (λ x. eqb x h) l)
 
--- two values of one test
-pub never : {P : Type 0} (t : Bool) → t ≡ true → t ≡ false → P
-never t p q = absurd (let z : ◌≡◌ {A = ℕ} 0 1 = cc in omega arith)
-
 -- ---- none
 pub times_none : (h : ℕ) (l : List ℕ) → has h l ≡ false → times h l ≡ 0
 times_none h l e = ap length (keep_none (λ x. eqb x h) l e)
@@ -59,7 +55,7 @@ pub others_none : (h : ℕ) (l : List ℕ) → has h l ≡ false → others h l 
 unfolding any keep
 others_none h [] e = refl
 others_none h (x ∷ l) e =
-    cases (eqb x h) (λ u. never true refl (rw u at e)) (λ u. rw u (ap (◌∷◌ x) (others_none h l (rw u at e))))
+    cases (eqb x h) (λ u. cc (rw u at e)) (λ u. rw u (ap (◌∷◌ x) (others_none h l (rw u at e))))
 
 pub others_at_most : (h : ℕ) (l : List ℕ) → length (others h l) ≤ length l
 others_at_most h l = omega (arith, keep_both (λ x. eqb x h) l)
