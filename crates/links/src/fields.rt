@@ -70,7 +70,7 @@ pub fn set_phys(links: Links, handle: u16, tx_phy: u8, rx_phy: u8) -> Links
     )
 }
 
-// Whether a request for a link's long term key awaits the host's reply.
+// Whether a request for a link's long term key awaits the host's reply. An octet, since a bool would ask more of callers.
 pub fn set_ltk_requested(links: Links, handle: u16, requested: u8) -> Links
     requires { CountsFit links }
     ensures { Changes handle (with_ltk_requested requested) links result }

@@ -9,7 +9,8 @@ ghost use Rattle.links.specs.Gather.{Gathers, gathered, times_in, itself, packet
 
 use crate::{Connection, Links, Waiting};
 
-// The handles of the first n connections. At each later index stands a number that is no handle, another at each.
+// The handles of the first n connections. At each later index stands a number that is no handle, another at each. The array and
+// n, not a slice of it: what is gathered (specs/Gather) is told of all sixteen places.
 pub fn handles_of(connections: &[Connection; 16], n: usize) -> [u32; 16]
     requires { n ≤ 16 }
     ensures { Gathers n connections.now result }
@@ -114,6 +115,6 @@ pub fn links_hold(links: Links, places: usize, size: usize) -> bool
     if !handles_differ(&handles, links.count) {
         return false;
     }
-    let waiting = &links.waiting[..links.waiting_count];
+    let waiting = links.waiting();
     waiting.is_empty() || packets_hold(waiting, &handles, places, size)
 }

@@ -3,7 +3,8 @@
 // controller's commands, notices and question 3. Contracts cite `specs/`.
 #![tactic(auto)]
 
-ghost use Rattle.std.specs.Prelude.{[]};
+ghost use Rattle.std.specs.Prelude.{◌≡◌, ◌≤◌, []};
+ghost use Rattle.links.specs.Links.{opened, waiting_of};
 ghost use Rattle.links.specs.Change.{ListsOf};
 
 mod change;
@@ -83,5 +84,21 @@ impl Links {
             waiting_count: 0,
             in_flight: 0,
         }
+    }
+
+    // The connections, in the order in which they were opened.
+    pub fn opened(&self) -> &[Connection]
+        requires { self.now.count ≤ 16 }
+        ensures { result.now ≡ opened self.now }
+    {
+        &self.connections[..self.count]
+    }
+
+    // The packets that wait, of all links, oldest first.
+    pub fn waiting(&self) -> &[Waiting]
+        requires { self.now.waiting_count ≤ 32 }
+        ensures { result.now ≡ waiting_of self.now }
+    {
+        &self.waiting[..self.waiting_count]
     }
 }

@@ -11,8 +11,7 @@ pub fn find_connection(links: Links, handle: u16) -> Option<usize>
     requires { links.count ≤ 16 }
     ensures { result ≡ position (has_handle handle) (opened links) }
 {
-    let opened = &links.connections[..links.count];
-    opened.iter().position(|c| c.handle == handle)
+    links.opened().iter().position(|c| c.handle == handle)
 }
 
 // Whether a connection has this handle.

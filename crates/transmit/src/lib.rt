@@ -62,7 +62,7 @@ pub fn enqueue(
 {
     let mut waiting = links.waiting;
     let count = links.waiting_count;
-    let place = free_place(&waiting[..count]);
+    let place = free_place(links.waiting());
     octets::put(pool, place * size, &packet[..n]);
     // By `as`: a packet has at most 1,024 octets and a place is below 32, and `try_from` would want a branch that no run takes.
     waiting[count] = Waiting {
@@ -146,7 +146,7 @@ pub fn take(
     requires { PoolFits links size places pool.now }
     ensures { Takes links size places handle max pool.now out.old result out.new }
 {
-    let Parted { taken, len, left } = part(&links.waiting[..links.waiting_count], handle, max);
+    let Parted { taken, len, left } = part(links.waiting(), handle, max);
     if out.len() < len {
         return None;
     }

@@ -12,11 +12,15 @@ free_place-place-requires c =
     let fits = c.requires.fits in
     let long : length s.waiting ≡ 32 = search (rules, length_of_map, c.well_formed) in
     let n = length-take-le s.waiting_count s.waiting (omega (arith, fits.held.few_waiting)) in
-    record { few = omega (arith, fits.held.few_waiting); placed = all_below c.args.places c.args.size _ fits.most fits.held.fit }
+    rw c.waiting.ensures
+    (record {
+      few = omega (arith, fits.held.few_waiting);
+      placed = all_below c.args.places c.args.size _ fits.most fits.held.fit;
+    })
 
 pub returns : goal.returns
 returns c =
     let s = c.args.links in
     let long : length s.waiting ≡ 32 = search (rules, length_of_map, c.well_formed) in
     let n = length-take-le s.waiting_count s.waiting (omega (arith, c.requires.fits.held.few_waiting)) in
-    queued c.requires (rw n at c.free_place-place.ensures) long c.put.ensures
+    queued c.requires (rw (c.waiting.ensures, n) at c.free_place-place.ensures) long c.put.ensures

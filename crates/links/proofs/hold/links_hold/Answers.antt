@@ -35,7 +35,7 @@ returns-then-is_empty c =
     let s = c.args in
     let wide : length s.links.waiting ≡ 32 = search (rules, length_of_map) in
     let differ = c.handles_differ.ensures s.links.connections c.handles_of-handles.ensures in
-    let none = eqb-true _ _ (sym c.is_empty.ensures ∙ c.if-is_empty.true) in
+    let none = rw c.waiting-waiting.ensures at (eqb-true _ _ (sym c.is_empty.ensures ∙ c.if-is_empty.true)) in
     let e = length-take-le s.links.waiting_count s.links.waiting (omega arith) in
     c.if-is_empty.true
     ∙ hold_none_waiting s.links s.places s.size (omega arith) (omega arith) (omega arith)
@@ -48,4 +48,4 @@ returns-else-is_empty c =
     let differ = c.handles_differ.ensures s.links.connections g in
     hold_packets s.links s.places s.size (omega arith) (omega arith) (omega arith) c.packets_hold.result
     (sym differ ∙ c.if-not-handles_differ.false)
-    (c.packets_hold.ensures s.links.count s.links.connections g.keys)
+    (rw c.waiting-waiting.ensures at c.packets_hold.ensures s.links.count s.links.connections g.keys)
