@@ -44,8 +44,8 @@ pub fn reset(s: Controller) -> Answered<Controller>
     Answered::done(s, Ok(state::reset(s)))
 }
 
-// Read Transmit Power Level (section 7.3.35): the current one, which is the profile's advertising power, or the greatest, which
-// is at most 20 dBm.
+// Read Transmit Power Level (section 7.3.35): the current one (0), which is the profile's advertising power, or the greatest
+// (1), which is at most 20 dBm.
 #[tactic(auto, unfolding(commands::specs::Known::read_transmit_power))]
 pub fn read_transmit_power(profile: ControllerRow, p: &[u8; 3], links: Links) -> Answer
     requires { links.count ≤ 16 }
