@@ -2,7 +2,6 @@
 // comes back. The file stdout has document 01's numbers.
 #![tactic(auto)]
 
-use hci::{MaskError, WriteError};
 use profile::ControllerRow;
 use std::io;
 
@@ -113,19 +112,15 @@ fn writers(rt: &impl Print) -> io::Result<()> {
     println!(rt; "one of 255 into 257 octets: {wide}")
 }
 
-// Document 01's number of a writer's answer.
-fn number(written: Result<usize, WriteError>) -> u8 {
-    match written {
+// Document 01's number of an answer.
+fn number<T: Copy, E: Into<u8>>(answer: Result<T, E>) -> u8 {
+    match answer {
         Ok(_) => 0,
-        Err(WriteError::TooLong) => 8,
-        Err(WriteError::NoRoom) => 9,
+        Err(e) => e.into(),
     }
 }
 
 fn bit(rt: &impl Print) -> io::Result<()> {
-    let refused = match hci::mask_has(0, 64) {
-        Ok(_) => 0,
-        Err(MaskError::NoSuchBit) => 10,
-    };
+    let refused = number(hci::mask_has(0, 64));
     println!(rt; "bit 64: {refused}")
 }
