@@ -1,6 +1,6 @@
-// How a command is answered: the source's four forms, with the return parameters and the event that follows them as octets
-// beside the form. For the commands, which make answers by these functions alone, and for the controller, which writes them.
-// Contracts cite `specs/Answers.antt`.
+// How a command is answered: three forms, with the return parameters, and the event that may follow, which is the source's
+// fourth, as octets beside the form. For the commands, which make answers by these functions alone, and for the controller, which
+// writes them. Contracts cite `specs/Answers.antt`.
 #![tactic(auto)]
 
 ghost use Rattle.std.specs.Prelude.{◌≡◌, [], ◌∷◌, ◌≤◌, length};

@@ -1,6 +1,6 @@
 // The bench program of document 01: records from standard input, one a line, and what each answers to standard output. It
-// streams: no more of the input is held than one line. A line that is no record ends the run, silently. What a line asks for and
-// what is printed for it is the crate `records`.
+// streams: no more of the input is held than one line and what was read at once. A line that is no record ends the run, silently.
+// What a line asks for and what is printed for it is the crate `records`.
 #![tactic(auto)]
 
 ghost use Rattle.std.specs.Prelude.{◌≤◌};

@@ -1,5 +1,5 @@
 // HCI packets and masks (Core Vol 4 Part E): writers, readers, bits. A writer asks questions 8 and 9, `wegrulsta_mask_has` 10.
-// Answers are structs of numbers, since no enum that holds a value crosses to C by value.
+// Answers are structs of numbers, since no enum crosses to C.
 ghost use Rattle.std.specs.Prelude.{◌≡◌, min, length};
 ghost use Rattle.hci.specs.Packet as packet;
 ghost use Rattle.hci.specs.Write as write;

@@ -1,6 +1,6 @@
 // A stream of octets cut into packets (H4, Core Vol 4 Part A): the length of the packet at the front of some octets, and a
 // stream over a buffer that the caller lends. An answer's `kind` says which of its other fields tell something; the others
-// are 0. It is a number, since no enum that holds a value crosses to C by value.
+// are 0. It is a number, since no enum crosses to C.
 ghost use Rattle.std.specs.Prelude.{◌≡◌, length, take};
 ghost use Rattle.h4.specs.Framing.{packet_length, packet_at};
 ghost use Rattle.capi.specs.Framing.{length_of, fed_of, Feeds};

@@ -1,8 +1,8 @@
 // The advertising families (section 3.1.1), and refusals.
 ghost use Rattle.std.specs.Prelude.{◌≡◌, [], ◌∷◌, cond, eqb};
 ghost use Rattle.signed.specs.Signed.{octet_of};
-ghost use Rattle.answers.specs.Answers.{complete, status};
-ghost use Rattle.commands.specs.Outcome.{Answers, done};
+ghost use Rattle.answers.specs.Answers.{complete};
+ghost use Rattle.commands.specs.Outcome.{Answers};
 ghost use Rattle.commands.specs.Command.{family_of, refused};
 ghost use Rattle.command.specs.Calling.{differs, family_in};
 
@@ -46,22 +46,15 @@ pub fn with_family(settings: Settings, op: u16) -> Settings
     t
 }
 
-// A status alone: in Command Status, or else in Command Complete.
-pub fn acknowledged(by_status: bool, code: u8) -> Answer
-    ensures { Answers (cond by_status (status code) (done code)) result }
-{
-    if by_status {
-        return answers::status(code);
-    }
-    answers::done(code)
-}
-
 // Command Status for an opcode that is acknowledged so, else Command Complete.
 #[tactic(auto, unfolding(commands::specs::Command::refused))]
 pub fn refuse(op: u16, code: u8) -> Answer
     ensures { Answers (refused op code) result }
 {
-    acknowledged(hci::is_async(op), code)
+    if hci::is_async(op) {
+        return answers::status(code);
+    }
+    answers::done(code)
 }
 
 // The refusal of a command of the other family; 0x2007 adds the power, as the device does.

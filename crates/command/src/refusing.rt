@@ -37,9 +37,9 @@ fn answer_for(reason: Reason, profile: ControllerRow, op: u16) -> Answer
     ensures { Answers (answer_for reason profile op) result }
 {
     match reason {
-        Reason::UnknownRow => family::acknowledged(false, UNKNOWN_COMMAND),
+        Reason::UnknownRow => answers::done(UNKNOWN_COMMAND),
         Reason::NoRow => family::refuse(op, UNKNOWN_COMMAND),
-        Reason::Vendor => family::acknowledged(false, SUCCESS),
+        Reason::Vendor => answers::done(SUCCESS),
         Reason::OtherFamily => family::disallowed(profile, op),
         Reason::Unmodeled => family::refuse(op, UNSUPPORTED_FEATURE),
         Reason::BadParameters => family::refuse(op, INVALID_PARAMETERS),

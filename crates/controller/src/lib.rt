@@ -4,9 +4,9 @@
 // has changed. The caller keeps the state, hands it in by value and gets it back; events and taken packets are octets at the
 // front of a buffer that the caller lends. Contracts cite `calls/specs/Gives.antt`.
 //
-// A function carries its call out itself, and hands it on to no other here, since each handing on may copy the state once more;
-// `controller_c` does it once. A notice puts the new state together before it writes its event, for the same reason
-// (docs/SPEED.md).
+// A function carries its call out itself, and hands it on to no other here but for the query `terminating`, since each handing on
+// may copy the state once more; `controller_c` does it once. A notice puts the new state together before it writes its event, for
+// the same reason (docs/SPEED.md).
 #![tactic(auto)]
 
 mod changing;

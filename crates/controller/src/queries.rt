@@ -94,7 +94,7 @@ pub fn terminating(profile: ControllerRow, s: Controller, handle: u16) -> Discon
     }
 }
 
-// The same for C, which has no enums that hold a value.
+// The same for C, to which no enum crosses.
 pub fn wegrulsta_terminating(profile: ControllerRow, s: Controller, handle: u16) -> ReasonTold
     ensures { Finds profile s (terminating_reason handle) 0 result.number result.reason }
 {

@@ -7,7 +7,8 @@ ghost use Rattle.controller.specs.Asked.{refusal_number, about_state, about_even
 use crate::refusal::Refusal;
 use profile::{ControllerRow, Rows};
 
-// What a question answers that refuses nothing.
+// What a question answers that refuses nothing. Each question is a test and its refusal: a function that is handed both, with `?`
+// behind it, is no plainer.
 const PASSED: Result<(), Refusal> = Ok(());
 
 // 1: is the profile within its limits? 3: does the state hold together?
@@ -40,7 +41,7 @@ pub fn about_events(profile: ControllerRow, held: bool, room: usize) -> Result<(
 fn pool_fits(profile: ControllerRow, pool: usize) -> bool
     ensures { result ≡ leb (profile.acl_count * place_size profile) pool }
 {
-    let size = usize::from(profile.acl_len) + 5;
+    let size = state::place_size(profile);
     let least = usize::from(profile.acl_count) * size;
     least <= pool
 }

@@ -26,7 +26,7 @@ pub fn wegrulsta_take(
     if let Err(refusal) = questions::about_pool(profile, held, pool.len()) {
         return refusal.took(s);
     }
-    let size = usize::from(profile.acl_len) + 5;
+    let size = state::place_size(profile);
     let places = usize::from(profile.acl_count);
     let Some(r) = transmit::take(s.links, pool, size, places, handle, max, out) else {
         return Refusal::PacketRoom.took(s);

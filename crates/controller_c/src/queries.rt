@@ -20,7 +20,7 @@ pub extern "C" fn wegrulsta_has_connection(
     controller::has_connection(profile, s, handle)
 }
 
-// The reason of a Disconnect that waits for the peer, 0 for none: C has no enums that hold a value.
+// The reason of a Disconnect that waits for the peer, 0 for none: no enum crosses to C.
 #[unsafe(no_mangle)]
 pub extern "C" fn wegrulsta_terminating(
     profile: ControllerRow,

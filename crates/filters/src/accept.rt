@@ -62,6 +62,7 @@ impl AcceptList {
     {
         let mut octets = self.octets;
         let mut n = self.count;
+        // The source takes out every equal entry, so a search follows each cut, over what is left.
         while let Some(place) = place_of(&octets, 7, n, entry) {
             cut(&mut octets, 7, n, place);
             n -= 1;

@@ -1,5 +1,5 @@
-// Whether the entries of a flat list differ, for question 3, which is asked at every call about both lists. Entries are told
-// apart by marks: the lowest nine bits of an address are marked where they are met, and only an entry whose mark was met
+// Whether the entries of a flat list differ, for question 3, which every call that takes a state asks about both lists. Entries
+// are told apart by marks: the lowest nine bits of an address are marked where they are met, and only an entry whose mark was met
 // already is compared with those before it.
 ghost use Rattle.std.specs.Prelude.{◌≡◌, ◌+◌, ◌*◌, ◌≤◌, length, drop};
 ghost use Rattle.lists.specs.Lists.{any, keyed, chunks};

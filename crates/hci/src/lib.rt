@@ -1,6 +1,6 @@
 // HCI packets (Core Vol 4 Part E): the codes, the readers of what a host sends and the writers of what a controller
 // answers. For the controller above, and for hosts and links that meet its packets. Every call is total; its contract
-// cites a definition of `specs/`.
+// cites a definition of `specs/` or of the library.
 #![tactic(auto)]
 
 ghost use Rattle.std.specs.Prelude.{◌≡◌, ◌==◌, position};

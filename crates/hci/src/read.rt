@@ -4,7 +4,8 @@ ghost use Rattle.hci.specs.Read.{parse_command, parse_acl, acl_data};
 
 use h4::{H4_ACL, H4_COMMAND};
 
-// A command packet: its opcode, and how many parameter octets follow the first four.
+// A command packet: its opcode, and how many parameter octets follow the first four. Not the slice of them: a value that holds a
+// reference is not equal to one of octets, so `parse` would promise a relation in place of the definition's value.
 #[derive(Clone, Copy)]
 pub struct Command {
     pub opcode: u16,

@@ -90,7 +90,8 @@ pub fn command_status(num: u8, status: u8, op: u16, out: &mut [u8]) -> Result<us
     event(COMMAND_STATUS, &[status, num, low, high], out)
 }
 
-// Number Of Completed Packets, of pairs of a handle and a count; where one slice is longer, what it has more is no pair.
+// Number Of Completed Packets, of pairs of a handle and a count, in two slices as C has them; where one is longer, what it has
+// more is no pair.
 #[tactic(auto, using(crate::proofs::Pairs::length_pairs), unfolding(crate::specs::Write::refusal))]
 pub fn number_of_completed_packets(
     handles: &[u16],

@@ -1,6 +1,6 @@
-// Question 3 about the links, decided exactly. It is asked at every exported call, so the handles are gathered once into an
-// array of numbers. Their lowest octets nearly always tell that they differ; otherwise, and to find a packet's handle, loops of
-// constant count look through the numbers without an early exit.
+// Question 3 about the links, decided exactly. It is asked at every call that takes a state, so the handles are gathered once
+// into an array of numbers. Their lowest octets nearly always tell that they differ; otherwise, and to find a packet's handle,
+// loops of constant count look through the numbers, none of which leaves early.
 ghost use Rattle.std.specs.Prelude.{◌≡◌, true, ◌&&◌, List, ℕ, ◌≤◌, take};
 ghost use Rattle.lists.specs.Lists.{any, all, keyed, distinct};
 ghost use Rattle.links.specs.declared.Connection.{Connection};

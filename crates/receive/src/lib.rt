@@ -132,7 +132,7 @@ pub fn data(s: Controller, profile: ControllerRow, pool: &mut [u8], packet: &[u8
     if links::buffers_in_use(links) >= places {
         return dropped(s);
     }
-    let size = usize::from(profile.acl_len) + 5;
+    let size = state::place_size(profile);
     let n = usize::from(header.len) + 5;
     let waiting = transmit::enqueue(links, pool, size, places, header.handle, packet, n);
     let mut after = links;

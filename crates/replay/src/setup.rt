@@ -57,7 +57,7 @@ impl<'a> Setup<'a> {
         let address = reader.octets()?;
         let random = reader.long()?;
         let (rows, behind) = reader.rest().as_chunks();
-        let place = usize::from(profile.acl_len) + 5;
+        let place = state::place_size(profile);
         let fits = behind.is_empty()
             && rows.len() <= 256
             && profile::within_limits(profile)

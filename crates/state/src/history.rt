@@ -15,7 +15,7 @@ pub fn remember(recent: Recent, op: u16, status: u8) -> Recent
     let [low, high] = op.to_le_bytes();
     let kept = n.min(31);
     let from = 3 * (n - kept);
-    // Copied from beside: moved within the one array (`copy_within`) it is a loop, some hundred instructions more a command.
+    // Copied from beside: moved within the one array (`copy_within`) it is a loop, some 45 instructions more a command.
     let before = recent.octets;
     let mut octets = before;
     let end = octets::put(&mut octets, 0, &before[from..3 * n]);

@@ -1,11 +1,18 @@
 // Question 3: does the state hold together? Decided exactly, the cheap conditions first, since every exported call asks it.
 ghost use Rattle.std.specs.Prelude.{◌≡◌};
-ghost use Rattle.state.specs.Holding.{accept_holds, resolving_holds, advertising_holds, settings_hold};
-ghost use Rattle.state.specs.Holding.{own_parts_hold, state_holds};
+ghost use Rattle.state.specs.Holding.{accept_holds, resolving_holds, advertising_holds, settings_hold, own_parts_hold};
+ghost use Rattle.state.specs.Holding.{place_size, state_holds};
 
 use crate::{Advertising, Controller, Recent, Settings};
 use filters::{AcceptList, ResolvingList};
 use profile::ControllerRow;
+
+// How many octets a place of the pool has: the longest packet's data, and the five octets before them.
+pub fn place_size(profile: ControllerRow) -> usize
+    ensures { result ≡ place_size profile }
+{
+    usize::from(profile.acl_len) + 5
+}
 
 // Does the state hold together for a profile?
 #[tactic(auto, unfolding(crate::specs::Holding::state_holds))]
@@ -13,11 +20,7 @@ pub fn holds(s: Controller, profile: ControllerRow) -> bool
     ensures { result ≡ state_holds s profile }
 {
     own_parts_hold(s.settings, s.advertising, s.recent)
-        && links::links_hold(
-            s.links,
-            usize::from(profile.acl_count),
-            usize::from(profile.acl_len) + 5,
-        )
+        && links::links_hold(s.links, usize::from(profile.acl_count), place_size(profile))
         && accept_holds(s.accept_list, profile.accept_list_size)
         && resolving_holds(s.resolving_list, profile.resolving_list_size)
 }

@@ -38,7 +38,7 @@ fn lowest_free(marks: &[u8]) -> usize
         .unwrap_or(marks.len())
 }
 
-// A place, one of the lowest n + 1, that none of the n waiting packets owns.
+// A place that none of the waiting packets owns, one of the lowest as many and one more.
 fn free_place(waiting: &[Waiting]) -> usize
     requires { CanMark waiting.now (length waiting.now) }
     ensures { FreePlace waiting.now (length waiting.now) result }

@@ -54,7 +54,7 @@ enqueue-waiting-requires c =
     let ready = c.requires.ready in
     let wide : length links.waiting ≡ 32 = search (rules, length_of_map, c.well_formed) in
     let used = in_use_lem links wide ready.holds.links.few_waiting 0 [] in
-    rw (c.from-size.ensures, c.from-places.ensures, c.from-n.ensures)
+    rw (c.place_size-size.ensures, c.from-places.ensures, c.from-n.ensures)
     (record {
       fits = record {
         held = ready.holds.links;
@@ -79,4 +79,4 @@ returns c =
     delivers_queued c.requires.ready.holds header
     (accepted k m header linked c.if-header-profile.false
     (omega (arith, used, c.from-places.ensures, c.if-buffers_in_use-places.false)))
-    (rw (c.from-size.ensures, c.from-places.ensures, c.from-n.ensures) at c.enqueue-waiting.ensures) c.count_packet.ensures
+    (rw (c.place_size-size.ensures, c.from-places.ensures, c.from-n.ensures) at c.enqueue-waiting.ensures) c.count_packet.ensures

@@ -9,4 +9,4 @@ overflow_mul-least c =
     let k = c.args.profile in
     let small : k.acl_count * (k.acl_len + 5) ≤ 65536 * 65541 =
     mul-le-mul {n₂ = 65536} {m₂ = 65541} (omega (arith, c.well_formed)) (omega (arith, c.well_formed)) in
-    rw (c.from.ensures, c.from-size.ensures) (record { fits = omega arith })
+    rw (c.from.ensures, c.place_size-size.ensures) (record { fits = omega arith })
