@@ -7,13 +7,15 @@ use crate::tables::SBOX;
 
 // To be made once and lent: to index a constant is to copy the whole of it.
 #[derive(Drop)]
-pub struct Sbox {
+pub(crate) struct Sbox {
     table: [u8; 256],
     ghost right: { SboxTable table },
 }
 
 impl Sbox {
-    pub fn new() -> Sbox {
+    pub(crate) fn new() -> Sbox
+        ensures { SboxTable result.table }
+    {
         Sbox { table: SBOX }
     }
 
@@ -23,14 +25,15 @@ impl Sbox {
         self.table[usize::from(b)]
     }
 
-    pub fn word(&self, a: [u8; 4]) -> [u8; 4]
+    pub(crate) fn word(&self, a: [u8; 4]) -> [u8; 4]
         ensures { result ≡ sub_word a }
     {
         a.map(|b| self.byte(b))
     }
 
+    // A row by a call each: with `map` the proof would need a clause of its own for the closure, which is longer.
     #[tactic(auto, using(crate::proofs::Four::each))]
-    pub fn bytes(&self, s: [[u8; 4]; 4]) -> [[u8; 4]; 4]
+    pub(crate) fn bytes(&self, s: [[u8; 4]; 4]) -> [[u8; 4]; 4]
         ensures { result ≡ sub_bytes s }
     {
         [

@@ -11,9 +11,7 @@ use borrow.Author.Tests.{eqb-true}
 use borrow.Table.Steps.{cases}
 use Rattle.octets.specs.Octets.{octet}
 use Rattle.hci.specs.Packet.{event, complete_params, status_params}
-use Rattle.answers.specs.declared.Form.{Form}
-use Rattle.answers.specs.declared.Form.TheVariants.{Complete, Status, Silent}
-use Rattle.answers.specs.Answers.{AnswerModel, acknowledgement, octets_of}
+use Rattle.answers.specs.Answers.{AnswerModel, Form, Complete, Status, Silent, acknowledgement, octets_of}
 use Rattle.commands.specs.Leaves.{follows_code, Follows}
 use Rattle.credits.specs.Credits as book
 use Rattle.agreement.specs.Agreement.{event_fed, events_fed}

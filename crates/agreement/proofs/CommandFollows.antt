@@ -17,9 +17,7 @@ use Rattle.lists.proofs.Tests.{all_at}
 use Rattle.hci.specs.Read.{parse_command, parameters}
 use Rattle.hci.specs.declared.read.Command.{Command}
 use Rattle.profile.specs.Profile.{row_answer, answers_fit}
-use Rattle.answers.specs.declared.Form.{Form}
-use Rattle.answers.specs.declared.Form.TheVariants.{Complete, Status, Silent}
-use Rattle.answers.specs.Answers.{AnswerModel, octets_of}
+use Rattle.answers.specs.Answers.{AnswerModel, Form, Complete, Status, Silent, octets_of}
 use Rattle.state.specs.State.{Model}
 use Rattle.commands.specs.Following.{enabled_by}
 use Rattle.commands.specs.Outcome.{Given, given, done}

@@ -44,10 +44,9 @@ pub fn add_to_accept_list(
         return Err(ErrorCode::InvalidParameters);
     }
     let size = usize::from(profile.accept_list_size);
-    match s.accept_list.add(filters::accept_entry(p), size) {
-        Some(list) => Ok(list),
-        None => Err(ErrorCode::MemoryCapacityExceeded),
-    }
+    s.accept_list
+        .add(filters::accept_entry(p), size)
+        .ok_or(ErrorCode::MemoryCapacityExceeded)
 }
 
 // LE Remove Device From Filter Accept List (section 7.8.17): an absent entry succeeds.

@@ -1,5 +1,5 @@
 // Legacy advertising: its parameters, its data and whether it is on.
-ghost use Rattle.std.specs.Prelude.{◌≡◌, ◌≤◌, ◌<◌, ◌&&◌, List, ℕ, eqb, take, drop, replicate, MatchOption};
+ghost use Rattle.std.specs.Prelude.{◌≡◌, ◌≤◌, ◌<◌, ◌&&◌, List, ℕ, eqb, take, drop, replicate, MatchResult};
 ghost use Rattle.octets.specs.Octets.{octet};
 ghost use Rattle.lists.specs.Lists.{same_list};
 ghost use Rattle.state.specs.State.{view};
@@ -7,6 +7,7 @@ ghost use Rattle.commands.specs.Air.{advertising_intervals_valid, advertising_pa
 ghost use Rattle.commands.specs.Air.{set_advertising_data, set_scan_response_data, set_advertising_enable, no_random_address};
 ghost use Rattle.commands.specs.Outcome.{done};
 ghost use Rattle.commands.specs.Refused.{YieldsAny};
+ghost use Rattle.commands.specs.declared.error.ErrorCode.TheVariants as error;
 ghost use Rattle.commands.specs.Put.{put_advertising};
 
 use commands::ErrorCode;
@@ -53,17 +54,17 @@ pub fn set_advertising_parameters(s: Controller, p: &[u8; 15]) -> Result<Adverti
     Ok(advertising)
 }
 
-// What advertising data or a scan response is to be: a length, then that many octets and padding. None where the length is too
-// long.
-fn load_of(p: &[u8; 32]) -> Option<&[u8]>
-    ensures { MatchOption result (31 < octet p.now 0)
-        (λ load. (octet p.now 0 ≤ 31) × (load.now ≡ take (octet p.now 0) (drop 1 p.now))) }
+// What advertising data or a scan response is to be: a length, which may be too long, then that many octets and padding.
+fn load_of(p: &[u8; 32]) -> Result<&[u8], ErrorCode>
+    ensures { MatchResult result
+        (λ load. (octet p.now 0 ≤ 31) × (load.now ≡ take (octet p.now 0) (drop 1 p.now)))
+        (λ code. (31 < octet p.now 0) × (code ≡ error.InvalidParameters)) }
 {
     let data_len = usize::from(p[0]);
     if data_len > 31 {
-        return None;
+        return Err(ErrorCode::InvalidParameters);
     }
-    Some(&p[1..1 + data_len])
+    Ok(&p[1..1 + data_len])
 }
 
 // LE Set Advertising Data (section 7.8.7).
@@ -71,10 +72,7 @@ fn load_of(p: &[u8; 32]) -> Option<&[u8]>
 pub fn set_advertising_data(s: Controller, p: &[u8; 32]) -> Result<Advertising, ErrorCode>
     ensures { YieldsAny done (set_advertising_data p.now) put_advertising s.advertising s result }
 {
-    match load_of(p) {
-        Some(load) => Ok(s.advertising.with_data(load)),
-        None => Err(ErrorCode::InvalidParameters),
-    }
+    Ok(s.advertising.with_data(load_of(p)?))
 }
 
 // LE Set Scan Response Data (section 7.8.8). One function with the data would be handed which field it sets, and is no plainer.
@@ -82,10 +80,7 @@ pub fn set_advertising_data(s: Controller, p: &[u8; 32]) -> Result<Advertising, 
 pub fn set_scan_response_data(s: Controller, p: &[u8; 32]) -> Result<Advertising, ErrorCode>
     ensures { YieldsAny done (set_scan_response_data p.now) put_advertising s.advertising s result }
 {
-    match load_of(p) {
-        Some(load) => Ok(s.advertising.with_scan_response(load)),
-        None => Err(ErrorCode::InvalidParameters),
-    }
+    Ok(s.advertising.with_scan_response(load_of(p)?))
 }
 
 // A random address of six zeroes counts as none: so it stands before one is set.

@@ -7,7 +7,7 @@ ghost use Rattle.commands.specs.Refused.{YieldsAny};
 ghost use Rattle.commands.specs.Put.{put_scanning};
 
 use crate::scanning::scan_times_valid;
-use commands::{Answered, ErrorCode};
+use commands::{Answered, ConnectionParams, ErrorCode};
 use hci::status::{SUCCESS, UNKNOWN_CONNECTION};
 use state::{Controller, Scanning};
 
@@ -28,12 +28,7 @@ fn create_connection_valid(p: &[u8; 25]) -> bool
         && filter <= 1
         && p[12] <= 3
         && peer_type_valid(filter, p[5])
-        && commands::connection_params_valid(
-            octets::word_at(p, 13),
-            octets::word_at(p, 15),
-            octets::word_at(p, 17),
-            octets::word_at(p, 19),
-        )
+        && ConnectionParams::read(p, 13).is_valid()
 }
 
 // LE Create Connection (section 7.8.12): not while initiating; then its parameters. The filter policy is kept.
@@ -53,7 +48,8 @@ pub fn create_connection(s: Controller, p: &[u8; 25]) -> Result<Scanning, ErrorC
     Ok(scanning)
 }
 
-// LE Create Connection Cancel (section 7.8.13): the event that the connection failed follows.
+// LE Create Connection Cancel (section 7.8.13): the event that the connection failed follows. It is refused in one place: a
+// `Result` inside for `?` would be longer.
 #[tactic(auto, unfolding(commands::specs::Air::create_connection_cancel))]
 pub fn create_connection_cancel(s: Controller) -> Answered<Scanning>
     ensures { GivesAny create_connection_cancel s (put_scanning result.part s) result.answer }

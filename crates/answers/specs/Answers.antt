@@ -1,11 +1,18 @@
 -- A command's answer as mathematics: the source's `Answer`, its four forms, and the octets that it becomes (Core Vol 4 Part E
 -- sections 4.4, 7.7.14 and 7.7.15). For the definitions of the commands.
-use Rattle.std.specs.Prelude.{◌≡◌, ℕ, ◌+◌, ◌≤◌, List, [], ◌∷◌, ◌++◌, length, get_or}
+use Rattle.std.specs.Prelude.{◌≡◌, ℕ, ◌+◌, ◌≤◌, List, [], ◌∷◌, ◌++◌, Option, Some, None, length, get_or}
 use Rattle.hci.specs.Packet.{event, complete_params, status_params}
-use Rattle.answers.specs.Held.{held}
-use Rattle.answers.specs.declared.Form.{Form}
-use Rattle.answers.specs.declared.Form.TheVariants.{Complete, Status, Silent}
+use Rattle.lists.specs.Held.{held}
+use Rattle.lists.specs.declared.held.Held.{Held}
+use Rattle.answers.specs.declared.Acknowledgement.{Acknowledgement}
+use Rattle.answers.specs.declared.Acknowledgement.TheVariants as by
 use Rattle.answers.specs.declared.Answer.{Answer}
+
+-- how a command is acknowledged: by Command Complete, by Command Status, or not at all
+pub data Form : Type 0 where
+  Complete : Form
+  Status : Form
+  Silent : Form
 
 -- the form, the return parameters or the status, and the octets of the event that follows, [] where none does
 pub record AnswerModel : Type 0 where
@@ -13,8 +20,24 @@ pub record AnswerModel : Type 0 where
   pub octets : List ℕ
   pub then : List ℕ
 
+-- of an acknowledgement, its form and its octets
+abbrev pub form_of : Acknowledgement → Form
+form_of (by.Complete returned) = Complete
+form_of (by.Status code) = Status
+form_of by.Silent = Silent
+
+abbrev pub told_by : Acknowledgement → List ℕ
+told_by (by.Complete returned) = held returned
+told_by (by.Status code) = code ∷ []
+told_by by.Silent = []
+
+-- the octets of an event, where there is one
+abbrev pub event_of : {N : ℕ} → Option (Held ℕ N) → List ℕ
+event_of (Some event) = held event
+event_of None = []
+
 abbrev pub answer_of : Answer → AnswerModel
-answer_of a = record { form = a.form; octets = held a.returned; then = held a.then }
+answer_of a = record { form = form_of a.acknowledgement; octets = told_by a.acknowledgement; then = event_of a.then }
 
 -- no event behind it
 abbrev pub alone : Form → List ℕ → AnswerModel
@@ -51,21 +74,10 @@ least Complete = 0
 least Status = 1
 least Silent = 0
 
--- Command Status tells its status
-pub record AnswerHolds (a : Answer) : Type 0 where
-  pub told : least a.form ≤ length (held a.returned)
-
 -- b is the answer a with these octets behind it
 abbrev pub Follows : List ℕ → Answer → Answer → Type 0
-Follows octets a b = (answer_of b ≡ followed octets (answer_of a)) × (AnswerHolds a → AnswerHolds b)
+Follows octets a b = answer_of b ≡ followed octets (answer_of a)
 
--- what writing an acknowledgement asks: at most 65 octets, and room for them behind the six before them
-pub record CanAcknowledge (form : Form) (octets out : List ℕ) : Type 0 where
-  pub short : length octets ≤ 65
-  pub told : least form ≤ length octets
-  pub room : 6 + length octets ≤ length out
-
--- what writing an answer asks
-pub record CanWrite (a : Answer) (out : List ℕ) : Type 0 where
-  pub holds : AnswerHolds a
-  pub room : 6 + length (held a.returned) + length (held a.then) ≤ length out
+-- what writing an answer asks: room for its octets, and for the six that stand before them at most
+abbrev pub CanWrite : Answer → List ℕ → Type 0
+CanWrite a out = 6 + length (told_by a.acknowledgement) + length (event_of a.then) ≤ length out

@@ -1,3 +1,2 @@
 -- The definitions of a command's answer.
-pub mod Held
 pub mod Answers

@@ -10,7 +10,8 @@ use std::io;
 use std::io::Read;
 
 // Between two parts of the input: the unit, the buffer of a line with how many octets at its front are held, and a buffer for the
-// octets of a packet. The unit's state always holds together, also where a read or a write has failed.
+// octets of a packet. The unit's state always holds together, also where a read or a write has failed. The line is in an array
+// and no Vec: with one, the program would assume the C library's heap (7 axioms and not 4).
 #[derive(Drop)]
 struct Bench {
     unit: Unit,
@@ -35,7 +36,8 @@ fn main(rt: HostRuntime) -> io::Result<()> {
     Ok(())
 }
 
-// Each gives whether the run goes on.
+// Each gives whether the run goes on: a bool, since `?` is for what a read or a write fails with, so that a ControlFlow or an
+// Option would be tested where the bool is.
 impl Bench {
     // All of the input. Nothing says that it ends, so the loop has a number of turns that no run uses up.
     fn on_input(&mut self, rt: &impl Print, input: &mut impl Read) -> io::Result<bool> {

@@ -5,16 +5,15 @@ use Rattle.std.specs.Prelude.{◌≡◌, ℕ, List, Option, Some, None, Result, 
 use Rattle.h4.specs.declared.StreamError.{StreamError}
 use Rattle.h4.specs.declared.StreamError.TheVariants.{Undefined, NoRoom}
 use Rattle.h4.specs.declared.H4Stream.{H4Stream}
-use Rattle.h4.specs.declared.FedStream.{FedStream}
+use Rattle.h4.specs.declared.UndefinedIndicator.{UndefinedIndicator}
 use Rattle.h4.specs.Stream as h4
 use Rattle.capi.specs.declared.stream.PacketLength.{PacketLength}
 use Rattle.capi.specs.declared.stream.StreamFed.{StreamFed}
 
-abbrev pub length_of : Result (Option ℕ) StreamError → PacketLength
+abbrev pub length_of : Result (Option ℕ) UndefinedIndicator → PacketLength
 length_of (Ok (Some n)) = record { kind = 0; indicator = 0; len = n }
 length_of (Ok None) = record { kind = 1; indicator = 0; len = 0 }
-length_of (Err (Undefined indicator)) = record { kind = 2; indicator = indicator; len = 0 }
-length_of (Err NoRoom) = record { kind = 3; indicator = 0; len = 0 }
+length_of (Err indicator) = record { kind = 2; indicator = indicator.0; len = 0 }
 
 -- how many octets are packets is the stream's `ready`
 abbrev pub fed_of : H4Stream → Result ℕ StreamError → StreamFed
@@ -24,6 +23,6 @@ fed_of stream (Err NoRoom) = record { stream = stream; kind = 3; indicator = 0 }
 
 -- what `H4Stream::feed` gives, in that form
 pub record Feeds (s : H4Stream) (buffer bytes : List ℕ) (r : StreamFed) (after : List ℕ) : Type 0 where
-  pub given : FedStream
-  pub feeds : h4.Feeds s buffer bytes given after
-  pub told : r ≡ fed_of given.stream given.answer
+  pub given : Result ℕ StreamError
+  pub feeds : h4.Feeds s buffer bytes given r.stream after
+  pub told : r ≡ fed_of r.stream given

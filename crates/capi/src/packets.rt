@@ -122,7 +122,7 @@ pub fn wegrulsta_write_le_meta(subevent: u8, params: &[u8], out: &mut [u8]) -> W
     hci::le_meta(subevent, params, out).into()
 }
 
-// Why a packet is not read, as C gets it. No `From`: neither type is of this crate, and the numbers are of C's constants above.
+// Why a packet is not read, as C gets it. No `From`: neither type is of this crate, and `hci` has no numbers for it.
 fn kind_of(e: ReadError) -> u8
     ensures { result ≡ kind_of e }
 {

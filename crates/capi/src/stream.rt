@@ -3,9 +3,9 @@
 // are 0. It is a number, since no enum crosses to C.
 ghost use Rattle.std.specs.Prelude.{◌≡◌, length, take};
 ghost use Rattle.h4.specs.Framing.{packet_length, packet_at};
-ghost use Rattle.capi.specs.Framing.{length_of, fed_of, Feeds};
+ghost use Rattle.capi.specs.Framing.{length_of, Feeds};
 
-use h4::{FedStream, H4Stream, StreamError};
+use h4::{H4Stream, StreamError, UndefinedIndicator};
 
 // The kinds: whole packets, too few octets to tell, an indicator that is not defined, and no room in the buffer.
 pub const PACKETS: u8 = 0;
@@ -36,15 +36,14 @@ pub struct StreamFed {
 }
 
 // What the octets at the front say, as C gets it.
-impl From<Result<Option<usize>, StreamError>> for PacketLength {
+impl From<Result<Option<usize>, UndefinedIndicator>> for PacketLength {
     ghost from_gives = { λ answer r. r ≡ length_of answer };
 
-    fn from(answer: Result<Option<usize>, StreamError>) -> PacketLength {
+    fn from(answer: Result<Option<usize>, UndefinedIndicator>) -> PacketLength {
         let (kind, indicator, len) = match answer {
             Ok(Some(n)) => (PACKETS, 0, n),
             Ok(None) => (MORE, 0, 0),
-            Err(StreamError::Undefined(indicator)) => (UNDEFINED, indicator, 0),
-            Err(StreamError::NoRoom) => (NO_ROOM, 0, 0),
+            Err(UndefinedIndicator(indicator)) => (UNDEFINED, indicator, 0),
         };
         PacketLength {
             kind,
@@ -68,29 +67,20 @@ pub fn wegrulsta_stream_start() -> H4Stream
     H4Stream::new()
 }
 
-// What feeding a stream answers, as C gets it.
-impl From<FedStream> for StreamFed {
-    ghost from_gives = { λ r told. told ≡ fed_of r.stream r.answer };
-
-    fn from(r: FedStream) -> StreamFed {
-        let (kind, indicator) = match r.answer {
-            Ok(_) => (PACKETS, 0),
-            Err(StreamError::Undefined(indicator)) => (UNDEFINED, indicator),
-            Err(StreamError::NoRoom) => (NO_ROOM, 0),
-        };
-        StreamFed {
-            stream: r.stream,
-            kind,
-            indicator,
-        }
-    }
-}
-
 // Appends bytes to the octets that wait, at the front of the buffer, and frames them.
-pub fn wegrulsta_stream_feed(stream: H4Stream, buffer: &mut [u8], bytes: &[u8]) -> StreamFed
+pub fn wegrulsta_stream_feed(mut stream: H4Stream, buffer: &mut [u8], bytes: &[u8]) -> StreamFed
     ensures { Feeds stream buffer.old bytes.now result buffer.new }
 {
-    stream.feed(buffer, bytes).into()
+    let (kind, indicator) = match stream.feed(buffer, bytes) {
+        Ok(_) => (PACKETS, 0),
+        Err(StreamError::Undefined(indicator)) => (UNDEFINED, indicator),
+        Err(StreamError::NoRoom) => (NO_ROOM, 0),
+    };
+    StreamFed {
+        stream,
+        kind,
+        indicator,
+    }
 }
 
 // The octets of the packet of the last feed that starts at index at of the buffer, 0 where there is none.

@@ -2,8 +2,16 @@
 // comes back. The file stdout has document 01's numbers.
 #![tactic(auto)]
 
+use links::Timing;
 use profile::ControllerRow;
 use std::io;
+
+// Of each link that opens.
+const TIMING: Timing = Timing {
+    interval: 24,
+    latency: 0,
+    timeout: 42,
+};
 
 fn main(rt: HostRuntime) -> io::Result<()> {
     limits_and_rows(&rt)?;
@@ -70,18 +78,18 @@ fn event_room(rt: &impl Print) -> io::Result<()> {
 fn seventeenth_handle(rt: &impl Print) -> io::Result<()> {
     let mut s = controller::default_state();
     for handle in 1..17 {
-        s = controller::open_connection(bench(), s, handle, 24, 0, 42).state;
+        s = controller::open_connection(bench(), s, handle, TIMING).state;
     }
-    let last = controller::open_connection(bench(), s, 17, 24, 0, 42);
+    let last = controller::open_connection(bench(), s, 17, TIMING);
     println!(rt; "a 17th handle: {}", last.number)?;
-    let again = controller::open_connection(bench(), s, 16, 24, 0, 42);
+    let again = controller::open_connection(bench(), s, 16, TIMING);
     println!(rt; "the 16th again: {}", again.number)
 }
 
 // A packet that waits, and a buffer of less octets than it has.
 fn packet_room(rt: &impl Print) -> io::Result<()> {
     let s = controller::default_state();
-    let r = controller::open_connection(bench(), s, 1, 24, 0, 42);
+    let r = controller::open_connection(bench(), s, 1, TIMING);
     let mut pool = [0u8; 64];
     let mut events = [0u8; 71];
     let packet = [0x02, 0x01, 0x00, 0x01, 0x00, 0xAA];
@@ -105,22 +113,14 @@ fn packet_room(rt: &impl Print) -> io::Result<()> {
 fn writers(rt: &impl Print) -> io::Result<()> {
     let params = [0u8; 256];
     let mut out = [0u8; 258];
-    let long = number(hci::event(0x0E, &params, &mut out));
+    let long = hci::number_of(hci::event(0x0E, &params, &mut out));
     println!(rt; "an event of 256 parameter octets: {long}")?;
     let mut few = [0u8; 257];
-    let wide = number(hci::event(0x0E, &params[..255], &mut few));
+    let wide = hci::number_of(hci::event(0x0E, &params[..255], &mut few));
     println!(rt; "one of 255 into 257 octets: {wide}")
 }
 
-// Document 01's number of an answer.
-fn number<T: Copy, E: Into<u8>>(answer: Result<T, E>) -> u8 {
-    match answer {
-        Ok(_) => 0,
-        Err(e) => e.into(),
-    }
-}
-
 fn bit(rt: &impl Print) -> io::Result<()> {
-    let refused = number(hci::mask_has(0, 64));
+    let refused = hci::number_of(hci::mask_has(0, 64));
     println!(rt; "bit 64: {refused}")
 }

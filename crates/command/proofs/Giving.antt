@@ -11,9 +11,7 @@ use borrow.Table.Steps.{cases}
 use Rattle.octets.specs.Octets.{Put}
 use Rattle.profile.specs.declared.ControllerRow.{ControllerRow}
 use Rattle.answers.specs.declared.Answer.{Answer}
-use Rattle.answers.specs.declared.Form.{Form}
-use Rattle.answers.specs.declared.Form.TheVariants.{Complete, Status, Silent}
-use Rattle.answers.specs.Answers.{AnswerModel, answer_of, octets_of}
+use Rattle.answers.specs.Answers.{AnswerModel, Form, Complete, Status, Silent, answer_of, octets_of}
 use Rattle.state.specs.State.{Model, view, answers_of, count_command}
 use Rattle.state.specs.Holding.{StateHolds}
 use Rattle.state.specs.declared.Controller.{Controller}
@@ -148,7 +146,6 @@ module _ {k : ControllerRow} {op : ℕ} {s u : Controller} {part : Part} {p out 
         let modest = rows_modest (given k address random p) (shaped_given can.shaped long) op (view u 0 []) in
         record {
           few = gives.held.recent;
-          holds = gives.shaped;
           modest = rw (ap (λ (o : Outcome). o.answer) (listed.viewed 0 [])) modest;
           room = can.room;
         }

@@ -6,8 +6,7 @@ use native.Mathlib.Omega.{arith}
 use mathlib.Core.List.{List}
 use lib.Dec.{eqb}
 use Rattle.profile.specs.declared.ControllerRow.{ControllerRow}
-use Rattle.answers.specs.declared.Answer.{Answer}
-use Rattle.answers.specs.Answers.{AnswerModel, answer_of}
+use Rattle.answers.specs.Answers.{AnswerModel}
 use Rattle.state.specs.State.{Model, view, count_command}
 use Rattle.state.specs.Holding.{StateHolds}
 use Rattle.state.specs.declared.Controller.{Controller}
@@ -15,7 +14,7 @@ use Rattle.state.specs.declared.Counters.{Counters}
 use Rattle.state.specs.declared.Settings.{Settings}
 use Rattle.commands.specs.Parts.{with_counters}
 use Rattle.commands.specs.Put.{put_settings, put_counters}
-use Rattle.commands.specs.Outcome.{outcome, Answers}
+use Rattle.commands.specs.Outcome.{outcome}
 use Rattle.commands.specs.Command.{refused}
 use Rattle.commands.specs.Leaves.{Modest}
 use Rattle.commands.proofs.Leaving.{completes, one_done, one_status, modest_cond}
@@ -37,9 +36,8 @@ reason_modest OtherFamily k op = modest_cond (eqb op 0x2007) (completes _ (omega
 reason_modest Unmodeled k op = refused_modest op _
 reason_modest BadParameters k op = refused_modest op _
 
-pub answer_modest : {a : Answer} (reason : Reason) (k : ControllerRow) (op : ℕ) → Answers (answer_for reason k op) a
-    → Modest (answer_of a)
-answer_modest reason k op answers = rw answers.same (reason_modest reason k op)
+pub answer_modest : {a : AnswerModel} (reason : Reason) (k : ControllerRow) (op : ℕ) → a ≡ answer_for reason k op → Modest a
+answer_modest reason k op same = rw same (reason_modest reason k op)
 
 -- the state after it
 state_view : (reason : Reason) (op : ℕ) (s : Controller) (size : ℕ) (pool : List ℕ)
@@ -64,13 +62,13 @@ state_holds_lem BadParameters op {s} h = family_holds op (holds_counters h (coun
 -- the same of what the code gives: the answer, the counters and the settings
 module _ (reason : Reason) (k : ControllerRow) (op : ℕ) (s : Controller) {counters : Counters} {settings : Settings}
     (counted : counters ≡ counters_for reason s.counters) (set : settings ≡ settings_for reason op s.settings) where
-  pub reason_outcome : {a : Answer} → Answers (answer_for reason k op) a → (size : ℕ) (pool : List ℕ)
-      → outcome (answer_of a) (view (put_settings settings (put_counters counters s)) size pool)
+  pub reason_outcome : {a : AnswerModel} → a ≡ answer_for reason k op → (size : ℕ) (pool : List ℕ)
+      → outcome a (view (put_settings settings (put_counters counters s)) size pool)
       ≡ answered_by reason k op (with_counters (count_command s.counters) (view s size pool))
-  reason_outcome {a} answers size pool =
+  reason_outcome same size pool =
       let after = put_settings (settings_for reason op s.settings) (put_counters (counters_for reason s.counters) s) in
       rw (counted, set)
-      (ap (λ (x : AnswerModel). outcome x (view after size pool)) answers.same
+      (ap (λ (x : AnswerModel). outcome x (view after size pool)) same
       ∙ ap (λ (m : Model). outcome (answer_for reason k op) m) (state_view reason op s size pool))
 
   pub reason_holds : StateHolds s k → StateHolds (put_settings settings (put_counters counters s)) k

@@ -4,8 +4,7 @@ use Prim.Native.Nat.{ℕ}
 use mathlib.Core.List.{List, [], ◌∷◌, ◌++◌}
 use lib.ListN.{get_or}
 use Rattle.octets.specs.Octets.{le}
-use Rattle.answers.specs.declared.Form.{Form}
-use Rattle.answers.specs.declared.Form.TheVariants.{Complete, Status, Silent}
+use Rattle.answers.specs.Answers.{Form, Complete, Status, Silent}
 use Rattle.state.specs.State.{remember}
 use Rattle.command.specs.Calling.{remembered_in}
 

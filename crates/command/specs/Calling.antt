@@ -4,10 +4,8 @@ use Rattle.std.specs.Prelude.{◌≡◌, ℕ, ◌≤◌, List, [], ◌∷◌, �
 use Rattle.octets.specs.Octets.{le, Put}
 use Rattle.signed.specs.Signed.{octet_of}
 use Rattle.profile.specs.declared.ControllerRow.{ControllerRow}
-use Rattle.answers.specs.declared.Form.{Form}
-use Rattle.answers.specs.declared.Form.TheVariants.{Complete, Status, Silent}
 use Rattle.answers.specs.declared.Answer.{Answer}
-use Rattle.answers.specs.Answers.{AnswerModel, AnswerHolds, answer_of, complete, octets_of}
+use Rattle.answers.specs.Answers.{AnswerModel, Form, Complete, Status, Silent, answer_of, complete, octets_of}
 use Rattle.state.specs.State.{Model, view, remember, count_command, count_unknown}
 use Rattle.state.specs.Holding.{StateHolds}
 use Rattle.state.specs.declared.Controller.{Controller}
@@ -134,7 +132,6 @@ pub record CanCarry (s : Controller) (k : ControllerRow) (op : ℕ) (part : Part
 -- an answer that fits the buffer, which question 5 was asked of
 pub record CanFinish (recent : Recent) (a : Answer) (out : List ℕ) : Type 0 where
   pub few : recent.count ≤ 32
-  pub holds : AnswerHolds a
   pub modest : Modest (answer_of a)
   pub room : 71 ≤ length out
 

@@ -44,9 +44,9 @@ fn rowless(op: u16) -> Reason
     Reason::NoRow
 }
 
-// The family is tested before anything of the command; then the table of commands decides. `modeled` is which of two answers the
-// listed row has, as the definition has it. An opcode or a length that the table
-// does not have is Invalid HCI Command Parameters.
+// The family is tested before anything of the command; then the table of commands decides. An opcode or a length that the table
+// does not have is Invalid HCI Command Parameters. `modeled` is a bool: handed the `Answering`, this would have an arm for
+// `Unknown` too, which no listed row has, and an enum of the other two would say no more than the name.
 fn listed_row(modeled: bool, op: u16, now: u8, n: usize) -> Result<Part, Reason>
     ensures { Courses (cond modeled 0 1) op now n result }
 {

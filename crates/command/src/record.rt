@@ -6,7 +6,7 @@ ghost use Rattle.state.specs.State.{answers_of};
 ghost use Rattle.command.specs.Calling.{begun_from, remembered_in, CanFinish, FinishedFrom};
 
 use crate::{Noted, family};
-use answers::{Answer, Form};
+use answers::{Acknowledgement, Answer};
 use state::{Controller, Counters, Recent, Settings};
 
 // The state with one command more and the command's family set, which every command that is carried out begins with.
@@ -21,7 +21,8 @@ pub fn begun(s: Controller, op: u16) -> Controller
 }
 
 // The end of every command, which left these counters and settings and found these last answers: its answer is remembered, and
-// written to the front of out.
+// written to the front of out. The three come apart: a struct of them would be put together in each of the three calls and taken
+// apart here.
 #[inline(always)]
 pub fn finished(
     counters: Counters,
@@ -51,8 +52,8 @@ fn remembered(recent: Recent, op: u16, answer: Answer) -> Recent
     ensures listed { answers_of result ≡ remembered_in (answer_of answer).form op (answer_of answer).octets (answers_of recent) }
     ensures few { result.count ≤ 32 }
 {
-    match answer.form {
-        Form::Silent => recent,
+    match answer.acknowledgement {
+        Acknowledgement::Silent => recent,
         _ => state::remember(recent, op, answer.status()),
     }
 }

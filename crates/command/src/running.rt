@@ -10,7 +10,8 @@ use dispatch::CommandPart;
 use profile::ControllerRow;
 use state::Controller;
 
-// A command that changes nothing; address is what Read BD_ADDR tells and random what LE Rand tells.
+// A command that changes nothing; address is what Read BD_ADDR tells and random what LE Rand tells. No struct is made of what the
+// definition has as `Given`: each half of `dispatch::read` takes three of its four, and the commands take them one by one.
 pub fn read(
     s: Controller,
     profile: ControllerRow,

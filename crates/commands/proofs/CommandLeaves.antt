@@ -14,9 +14,7 @@ use Rattle.lists.specs.Lists.{first_at, any, all}
 use Rattle.lists.proofs.Tests.{all_at}
 use Rattle.hci.specs.Opcode.{is_async}
 use Rattle.profile.specs.Profile.{answers_fit, row_answer}
-use Rattle.answers.specs.declared.Form.{Form}
-use Rattle.answers.specs.declared.Form.TheVariants.{Complete, Status, Silent}
-use Rattle.answers.specs.Answers.{AnswerModel, complete, acknowledgement, octets_of, least}
+use Rattle.answers.specs.Answers.{AnswerModel, Form, Complete, Status, Silent, complete, acknowledgement, octets_of, least}
 use Rattle.state.specs.State.{Model, count_command}
 use Rattle.commands.specs.Parts.{with_counters}
 use Rattle.commands.specs.Outcome.{Outcome, outcome, Given}

@@ -10,12 +10,11 @@ use Rattle.octets.proofs.Writing.{put_front}
 use Rattle.hci.specs.Write.{Wrote, count}
 use Rattle.hci.specs.declared.write.WriteError.{WriteError}
 use Rattle.hci.proofs.Writers.{wrote_put}
-use Rattle.answers.specs.declared.Answer.{Answer}
-use Rattle.answers.specs.Answers.{answer_of, followed, Follows}
+use Rattle.answers.specs.Answers.{AnswerModel, followed}
 
 -- octets that are equal serve as well
-pub follows : {xs ys : List ℕ} {a r : Answer} → Follows xs a r → xs ≡ ys → Follows ys a r
-follows {xs} {ys} {a} f e = (f.0 ∙ ap (λ (octets : List ℕ). followed octets (answer_of a)) e, f.1)
+pub follows : {xs ys : List ℕ} (a : AnswerModel) {r : AnswerModel} → r ≡ followed xs a → xs ≡ ys → r ≡ followed ys a
+follows a f e = f ∙ ap (λ (octets : List ℕ). followed octets a) e
 
 -- how many octets a writer says it wrote, none where it refuses
 counted : (r : Result ℕ WriteError) → result_unwrap_or r 0 ≡ count r

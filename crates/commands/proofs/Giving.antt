@@ -6,7 +6,7 @@ use mathlib.Core.List.{List}
 use Rattle.std.proofs.Common.{rules}
 use Rattle.profile.specs.declared.ControllerRow.{ControllerRow}
 use Rattle.answers.specs.declared.Answer.{Answer}
-use Rattle.answers.specs.Answers.{AnswerModel, AnswerHolds, answer_of, followed, Follows}
+use Rattle.answers.specs.Answers.{AnswerModel, followed}
 use Rattle.filters.specs.declared.accept.AcceptList.{AcceptList}
 use Rattle.filters.specs.declared.resolving.ResolvingList.{ResolvingList}
 use Rattle.links.specs.declared.Connection.{Connection}
@@ -30,16 +30,10 @@ use Rattle.commands.specs.Refused.{GivesStatus}
 
 -- ---- an answer alone
 
--- one that a function of `answers` made
-pub answered : {expected made : AnswerModel} {a : Answer} → (answer_of a ≡ made) × AnswerHolds a → made ≡ expected
-    → Answers expected a
-answered e same = record { same = e.0 ∙ same; shaped = e.1 }
-
--- the same with an event behind it
-pub answered_then : {octets : List ℕ} {expected made : AnswerModel} {a b : Answer} → Follows octets a b
-    → (answer_of a ≡ made) × AnswerHolds a
-    → followed octets made ≡ expected → Answers expected b
-answered_then {octets} f e same = record { same = f.0 ∙ ap (λ (x : AnswerModel). followed octets x) e.0 ∙ same; shaped = f.1 e.1 }
+-- with an event behind it
+pub answered_then : {octets : List ℕ} {expected a b : AnswerModel} → b ≡ followed octets a → a ≡ expected
+    → b ≡ followed octets expected
+answered_then {octets} f e = f ∙ ap (followed octets) e
 
 -- ---- the state with a new part holds together, where the part does
 module _ {s : Controller} {k : ControllerRow} (h : StateHolds s k) where
@@ -68,12 +62,12 @@ module _ {s : Controller} {k : ControllerRow} (h : StateHolds s k) where
 
 module _ {f : Model → Outcome} {k : ControllerRow} {s : Controller} where
   -- the state t and the answer are those of the definition f
-  pub gives_answer : {t : Controller} {made : AnswerModel} {a : Answer} → (answer_of a ≡ made) × AnswerHolds a
-      → ((size : ℕ) (pool : List ℕ) → f (view s size pool) ≡ outcome made (view t size pool)) → StateHolds t k → Gives f k s t a
+  pub gives_answer : {t : Controller} {expected : AnswerModel} {a : Answer} → Answers expected a
+      → ((size : ℕ) (pool : List ℕ) → f (view s size pool) ≡ outcome expected (view t size pool)) → StateHolds t k
+      → Gives f k s t a
   gives_answer {t} e same held = record {
-    viewed = λ size pool. ap (λ (x : AnswerModel). outcome x (view t size pool)) e.0 ∙ sym (same size pool);
+    viewed = λ size pool. ap (λ (x : AnswerModel). outcome x (view t size pool)) e ∙ sym (same size pool);
     held = held;
-    shaped = e.1;
   }
 
   -- the connection of handle h changed by g, which keeps its handle
@@ -83,7 +77,7 @@ module _ {f : Model → Outcome} {k : ControllerRow} {s : Controller} where
       → f (view s size pool) ≡ outcome expected (with_links (links.changed h g (view s size pool).links) (view s size pool)))
       → StateHolds s k → Gives f k s (put_links r s) a
   gives_changed {r} {expected} h g keeps x answers same held =
-      gives_answer (answers.same, answers.shaped)
+      gives_answer answers
       (λ size pool. same size pool
       ∙ ap (λ (y : links.Model). outcome expected (with_links y (view s size pool))) (sym (x.viewed size pool)))
       (holds_links held (changed_holds s.links held.links h g keeps x))
@@ -93,12 +87,12 @@ module _ {f : Model → Outcome} {k : ControllerRow} {s : Controller} where
       → (x ≡ y) × Answers expected a
       → ((size : ℕ) (pool : List ℕ) → f (view s size pool) ≡ outcome expected (view (put y s) size pool)) → StateHolds (put y s) k
       → Gives f k s (put x s) a
-  gives_part put e same held = rw e.0 (gives_answer (e.1.same, e.1.shaped) same held)
+  gives_part put e same held = rw e.0 (gives_answer e.1 same held)
 
   -- a definition g that says of the state u what f says of s
   pub gives_as : {g : Model → Outcome} {u t : Controller} {a : Answer} → Gives f k s t a
       → ((size : ℕ) (pool : List ℕ) → f (view s size pool) ≡ g (view u size pool)) → Gives g k u t a
-  gives_as h same = record { viewed = λ size pool. h.viewed size pool ∙ same size pool; held = h.held; shaped = h.shaped }
+  gives_as h same = record { viewed = λ size pool. h.viewed size pool ∙ same size pool; held = h.held }
 
 -- ---- the status of a command that may be refused, beside the state after it
 

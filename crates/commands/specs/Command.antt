@@ -5,9 +5,7 @@ use Rattle.octets.specs.Octets.{le, Put}
 use Rattle.hci.specs.Opcode.{is_async}
 use Rattle.signed.specs.Signed.{octet_of}
 use Rattle.profile.specs.Profile.{row_answer}
-use Rattle.answers.specs.declared.Form.{Form}
-use Rattle.answers.specs.declared.Form.TheVariants.{Complete, Status, Silent}
-use Rattle.answers.specs.Answers.{AnswerModel, complete, status, octets_of}
+use Rattle.answers.specs.Answers.{AnswerModel, Form, Complete, Status, Silent, complete, status, octets_of}
 use Rattle.state.specs.State.{Model, view, remember, count_command, count_unknown}
 use Rattle.state.specs.Holding.{StateHolds}
 use Rattle.state.specs.declared.Controller.{Controller}

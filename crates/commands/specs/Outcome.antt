@@ -5,7 +5,7 @@ use Rattle.octets.specs.Octets.{le}
 use Rattle.profile.specs.declared.ControllerRow.{ControllerRow}
 use Rattle.profile.specs.Profile.{Limits}
 use Rattle.answers.specs.declared.Answer.{Answer}
-use Rattle.answers.specs.Answers.{AnswerModel, AnswerHolds, answer_of, complete}
+use Rattle.answers.specs.Answers.{AnswerModel, answer_of, complete}
 use Rattle.links.specs.declared.Connection.{Connection}
 use Rattle.state.specs.State.{Model, view}
 use Rattle.state.specs.Holding.{StateHolds}
@@ -41,16 +41,14 @@ at_link None none some = none
 at_link (Some c) none some = some c
 
 -- the code's answer is the definition's
-pub record Answers (expected : AnswerModel) (a : Answer) : Type 0 where
-  pub same : answer_of a ≡ expected
-  pub shaped : AnswerHolds a
+abbrev pub Answers : AnswerModel → Answer → Type 0
+Answers expected a = answer_of a ≡ expected
 
 -- the code gives the answer a and the state t where the definition f says so of the state s, whatever the pool holds; the new
 -- state holds together
 pub record Gives (f : Model → Outcome) (profile : ControllerRow) (s t : Controller) (a : Answer) : Type 0 where
   pub viewed : (size : ℕ) (pool : List ℕ) → outcome (answer_of a) (view t size pool) ≡ f (view s size pool)
   pub held : StateHolds t profile
-  pub shaped : AnswerHolds a
 
 -- the same for every profile that the state holds together for
 abbrev pub GivesAny : (Model → Outcome) → Controller → Controller → Answer → Type 0

@@ -1,6 +1,6 @@
 // The events that follow an answer, under their masks. Each function gives the same answer with the event behind it, or with
 // none where the host has masked it.
-ghost use Rattle.std.specs.Prelude.{◌≡◌, ◌++◌, ◌≤◌, length, replicate};
+ghost use Rattle.std.specs.Prelude.{◌≡◌, ◌++◌, ◌≤◌, length, flat_map, replicate};
 ghost use Rattle.hci.specs.Packet.{event, meta_params};
 ghost use Rattle.answers.specs.Answers.{Follows};
 ghost use Rattle.commands.specs.Following.{timing_of, le_meta_event, update_complete, encryption_change};
@@ -27,7 +27,7 @@ pub fn followed_by_event(answer: Answer, code: u8, params: &[u8]) -> Answer
     answers::followed_by(answer, &event[..n])
 }
 
-// An LE Meta event.
+// An LE Meta event. One function with `followed_by_event` would be handed which writer it calls, and is no plainer.
 fn followed_by_subevent(answer: Answer, subevent: u8, params: &[u8]) -> Answer
     requires { length params.now ≤ 33 }
     ensures { Follows (event 0x3E (meta_params subevent params.now)) answer result }
@@ -46,24 +46,17 @@ pub fn followed_by_le(answer: Answer, masks: Masks, subevent: u8, params: &[u8])
     if masks.enables_le(subevent) {
         return followed_by_subevent(answer, subevent, params);
     }
-    answers::followed_by(answer, &[])
+    Answer {
+        then: None,
+        ..answer
+    }
 }
 
 // The three parameters of a link as events have them: two octets each.
-fn timing_octets(timing: Timing) -> [u8; 6]
-    ensures { result ≡ timing_of timing.interval timing.latency timing.timeout }
+fn timing_octets(timing: Timing) -> [[u8; 2]; 3]
+    ensures { flat_map (λ x. x) result ≡ timing_of timing.interval timing.latency timing.timeout }
 {
-    let [interval_low, interval_high] = timing.interval.to_le_bytes();
-    let [latency_low, latency_high] = timing.latency.to_le_bytes();
-    let [timeout_low, timeout_high] = timing.timeout.to_le_bytes();
-    [
-        interval_low,
-        interval_high,
-        latency_low,
-        latency_high,
-        timeout_low,
-        timeout_high,
-    ]
+    [timing.interval, timing.latency, timing.timeout].map(u16::to_le_bytes)
 }
 
 // LE Connection Update Complete (section 7.7.65.3): a link has these parameters.
@@ -73,7 +66,12 @@ pub fn followed_by_update(answer: Answer, masks: Masks, handle: u16, timing: Tim
 {
     let [low, high] = handle.to_le_bytes();
     let mut params = [SUCCESS; 9];
-    octets::put_two(&mut params, 1, &[low, high], &timing_octets(timing));
+    octets::put_two(
+        &mut params,
+        1,
+        &[low, high],
+        timing_octets(timing).as_flattened(),
+    );
     followed_by_le(answer, masks, CONNECTION_UPDATE_COMPLETE, &params)
 }
 
@@ -93,7 +91,10 @@ pub fn followed_by_encryption_change(answer: Answer, masks: Masks, handle: u16) 
     if masks.enables(mask::ENCRYPTION_CHANGE) {
         return followed_by_event(answer, ENCRYPTION_CHANGE, &[SUCCESS, low, high, 0x01]);
     }
-    answers::followed_by(answer, &[])
+    Answer {
+        then: None,
+        ..answer
+    }
 }
 
 // The parameters of LE Connection Complete, in the parts of which each of its forms is made.
@@ -116,7 +117,12 @@ fn newest_params(c: ConnectionComplete) -> [u8; 33]
 {
     let mut params = [0; 33];
     let peer_end = octets::put_two(&mut params, 0, &c.head, &c.peer);
-    let at = octets::put_two(&mut params, peer_end, &[0; 12], &timing_octets(c.timing));
+    let at = octets::put_two(
+        &mut params,
+        peer_end,
+        &[0; 12],
+        timing_octets(c.timing).as_flattened(),
+    );
     octets::put_two(&mut params, at, &[c.clock_accuracy], &c.sets);
     params
 }

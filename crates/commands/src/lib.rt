@@ -1,7 +1,8 @@
 // What the commands share: the answer beside the state, a part of the state put back, answers that return octets, the events that
 // follow an answer, the tests of parameters that more than one command makes, and the table of opcodes and lengths. `specs/`
 // holds the definitions of all commands; their code is in the crates `known`, `air`, `link`, `privacy` and `test_and_power`. For
-// these, and for `command` above them.
+// these, and for `command` above them. Their contracts ask that questions 1 and 3 were answered (`Ready`): a fact of the state
+// and the profile together, and C hands in any octets for both, so no type carries it.
 #![tactic(auto)]
 
 mod checks;
@@ -11,7 +12,7 @@ mod parts;
 mod returned;
 mod table;
 
-pub use checks::{connection_params_valid, has_phy, long_at, phys};
+pub use checks::{ConnectionParams, has_phy, long_at, phys};
 pub use error::ErrorCode;
 pub use events::{
     ConnectionComplete, followed_by_connection_complete, followed_by_connection_failed,

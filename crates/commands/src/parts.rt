@@ -1,21 +1,21 @@
 // The answer of a command beside the one part of the state that the command changes, which is smaller to hand back than the
 // whole, or, for Reset, beside the state; and how a part is put back into the state.
-ghost use Rattle.std.specs.Prelude.{◌≡◌, refl};
+ghost use Rattle.std.specs.Prelude.{◌≡◌, ◌∷◌, ◌≤◌, length, refl};
 ghost use Rattle.std.specs.Result.{result_unwrap_or};
 ghost use Rattle.state.specs.declared.Controller.{Controller};
 ghost use Rattle.state.specs.declared.Counters.{Counters};
 ghost use Rattle.state.specs.declared.Recent.{Recent};
 ghost use Rattle.state.specs.declared.Settings.{Settings};
-ghost use Rattle.answers.specs.Answers.{status};
+ghost use Rattle.answers.specs.Answers.{complete, status};
 ghost use Rattle.commands.specs.Outcome.{Answers, done, done_handle};
 ghost use Rattle.commands.specs.Refused.{status_of};
 ghost use Rattle.commands.specs.Put.{put_masks, put_settings, put_advertising, put_scanning, put_accept_list};
 ghost use Rattle.commands.specs.Put.{put_resolving_list, put_links, put_counters, noted_in};
 
 use crate::ErrorCode;
+use crate::returned::returned;
 use answers::Answer;
 use filters::{AcceptList, ResolvingList};
-use hci::status::SUCCESS;
 use links::Links;
 use state::{Advertising, Controller, Masks, Scanning, Settings};
 
@@ -52,6 +52,19 @@ impl<P: Copy> Answered<P> {
         }
     }
 
+    // By Command Complete with a status and these octets behind it.
+    #[inline(always)]
+    pub fn returning(before: P, outcome: Result<P, ErrorCode>, octets: &[u8]) -> Answered<P>
+        requires { length octets.now ≤ 64 }
+        ensures { (result.part ≡ result_unwrap_or outcome before)
+            × Answers (complete (status_of outcome ∷ octets.now)) result.answer }
+    {
+        Answered {
+            part: outcome.unwrap_or(before),
+            answer: returned(&[status_of(outcome)], octets),
+        }
+    }
+
     // By Command Status.
     #[inline(always)]
     pub fn status(before: P, outcome: Result<P, ErrorCode>) -> Answered<P>
@@ -64,15 +77,12 @@ impl<P: Copy> Answered<P> {
     }
 }
 
-// The status of what a command gives.
+// The status of what a command gives: success is 0.
 #[inline(always)]
 fn status_of<P: Copy>(outcome: Result<P, ErrorCode>) -> u8
     ensures { result ≡ status_of outcome }
 {
-    match outcome {
-        Ok(_) => SUCCESS,
-        Err(code) => code.into(),
-    }
+    hci::number_of(outcome)
 }
 
 // A part of the state: `put x s` is the state s with x in place of its own. What is noted of every command, counters, settings

@@ -9,7 +9,7 @@ use answers::Answer;
 use hci::status::SUCCESS;
 
 // The octets of head, and those of body behind them.
-fn returned(head: &[u8], body: &[u8]) -> Answer
+pub fn returned(head: &[u8], body: &[u8]) -> Answer
     requires { length head.now + length body.now ≤ 65 }
     ensures { Answers (complete (head.now ++ body.now)) result }
 {

@@ -1,5 +1,6 @@
 // The table of opcodes and of how many parameter octets each takes (`param_len` of the source), in the order of the tables of
-// `specs/Table.antt`.
+// `specs/Table.antt`. Columns and no array of rows: `hci::first_opcode` looks through opcodes that stand side by side, as it does
+// for a profile's, which C hands over so. The part that each command changes is a third column, `PARTS` of `dispatch`.
 ghost use Rattle.std.specs.Prelude.{◌≡◌, ◌==◌, true, cond, eqb, get_or, position};
 ghost use Rattle.commands.specs.Table.{opcodes, rows, no_row};
 ghost use Rattle.commands.specs.Table.{fits as size_fits};
@@ -13,8 +14,8 @@ const OPCODES: [u16; 71] = [
     0x201C, 0x201D, 0x201E, 0x201F, 0x2033, 0x2034, 0x203A, 0x203B, 0x204B, 0x204C, 0x204D,
 ];
 
-// How many parameter octets, 256 where the command looks at their number itself: as an array of `Option<u8>` this is a line for
-// each row, and no plainer.
+// How many parameter octets, 256 where the command looks at their number itself, as one does: an array of `Option<u8>` would say
+// `Some` in all other rows, a line for each, and is no plainer.
 const SIZES: [u16; 71] = [
     3, 2, 8, 0, 3, 1, 7, 256, 8, 2, 4, 0, 0, 0, 0, 2, 8, 0, 0, 6, 15, 0, 32, 32, 1, 7, 2, 25, 0, 0,
     0, 7, 7, 14, 5, 2, 2, 32, 0, 28, 18, 2, 14, 3, 6, 0, 4, 39, 7, 0, 0, 7, 7, 1, 2, 0, 2, 3, 7, 8,

@@ -2,15 +2,18 @@
 use mathlib.Core.Path.{◌≡◌, refl, sym, ap}
 use Prim.Native.Nat.{ℕ}
 use mathlib.Core.List.{List}
-use mathlib.Core.Bool.{Bool, true, false}
+use mathlib.Core.Bool.{true, false}
 use native.Mathlib.Omega.{arith}
 use lib.ListN.{replicate}
+use Rattle.std.specs.Prelude.{Result, Ok, Err, MatchResult}
 use Rattle.profile.specs.declared.ControllerRow.{ControllerRow}
 use Rattle.profile.specs.Profile.{rows_fit, row_bitmap}
 use Rattle.state.specs.State.{Model}
 use Rattle.state.specs.declared.Controller.{Controller}
 use Rattle.calls.specs.Calls.{first_no}
 use Rattle.calls.specs.Gives.{Finds, FindsBitmap}
+use Rattle.controller.specs.declared.refusal.Refusal.{Refusal}
+use Rattle.controller.specs.Asked.{number_of, refusal_number}
 
 -- the bit map, where the rows do not fit and where they do
 pub finds_no_bitmap : {opcodes answers bits : List ℕ} → false ≡ rows_fit opcodes answers bits
@@ -22,6 +25,12 @@ pub finds_bitmap : {opcodes answers bits map : List ℕ} → true ≡ rows_fit o
     → FindsBitmap opcodes answers bits 0 map
 unfolding first_no
 finds_bitmap e found = record { asked = rw (sym e); refused = λ p. absurd (omega arith); accepted = λ z. found }
+
+-- the number of what is found
+pub numbered : {A : Type 0} {number : ℕ} (r : Result A Refusal)
+    → MatchResult r (λ found. number ≡ 0) (λ refusal. number ≡ number_of refusal) → number ≡ refusal_number r
+numbered (Ok x) e = e
+numbered (Err refusal) e = e
 
 -- the answer told in another form, as an enum by a number
 pub finds_told : {A B : Type 0} (f : A → B) (k : ControllerRow) (s : Controller) (sought : Model → A) (none : A) (number : ℕ)

@@ -12,22 +12,15 @@ pub fn wegrulsta_update(
     profile: ControllerRow,
     s: Controller,
     handle: u16,
-    interval: u16,
-    latency: u16,
-    timeout: u16,
+    timing: Timing,
     out: &mut [u8],
 ) -> Told
-    ensures { Tells profile (call.peer_update handle interval latency timeout) s out.old result out.new }
+    ensures { Tells profile (call.peer_update handle timing.interval timing.latency timing.timeout) s out.old result out.new }
 {
     let held = state::holds(s, profile);
     if let Err(refusal) = questions::about_events(profile, held, out.len()) {
         return refusal.told(s);
     }
-    let timing = Timing {
-        interval,
-        latency,
-        timeout,
-    };
     let r = notices::peer_update(s, handle, timing);
     telling::heard(s, r, out)
 }

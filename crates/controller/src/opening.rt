@@ -10,15 +10,8 @@ use profile::ControllerRow;
 use state::Controller;
 
 // A link opened. Question 6: is the handle present, or one of sixteen places free?
-pub fn wegrulsta_open(
-    profile: ControllerRow,
-    s: Controller,
-    handle: u16,
-    interval: u16,
-    latency: u16,
-    timeout: u16,
-) -> Changed
-    ensures { Changes profile (call.open_connection handle interval latency timeout) s result }
+pub fn wegrulsta_open(profile: ControllerRow, s: Controller, handle: u16, timing: Timing) -> Changed
+    ensures { Changes profile (call.open_connection handle timing.interval timing.latency timing.timeout) s result }
 {
     let held = state::holds(s, profile);
     if let Err(refusal) = questions::about_state(profile, held) {
@@ -27,11 +20,6 @@ pub fn wegrulsta_open(
     if !links::can_open(s.links, handle) {
         return Refusal::Handle.changed(s);
     }
-    let timing = Timing {
-        interval,
-        latency,
-        timeout,
-    };
     let r = notices::open_connection(s, handle, timing);
     let mut t = s;
     t.links = r.part;
@@ -48,13 +36,12 @@ pub fn wegrulsta_accept(
     handle: u16,
     peer_type: u8,
     peer: &[u8; 6],
-    interval: u16,
-    latency: u16,
-    timeout: u16,
+    timing: Timing,
     sca: u8,
     out: &mut [u8],
 ) -> Told
-    ensures { Tells profile (call.accept_connection handle (is_random peer_type) peer.now interval latency timeout sca)
+    ensures { Tells profile
+        (call.accept_connection handle (is_random peer_type) peer.now timing.interval timing.latency timing.timeout sca)
         s out.old result out.new }
 {
     let held = state::holds(s, profile);
@@ -64,11 +51,6 @@ pub fn wegrulsta_accept(
     if !links::can_open(s.links, handle) {
         return Refusal::Handle.told(s);
     }
-    let timing = Timing {
-        interval,
-        latency,
-        timeout,
-    };
     let r = notices::accept_connection(s, handle, peer_type != 0, *peer, timing, sca);
     telling::heard(s, r, out)
 }

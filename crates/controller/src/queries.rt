@@ -1,5 +1,7 @@
-// What a user may ask of a controller, and the state that it starts with. A refused query answers false, nothing or 0.
+// What a user may ask of a controller, and the state that it starts with. A refused query answers false or 0, and the one that C
+// does not get the refusal.
 ghost use Rattle.std.specs.Prelude.{◌≡◌, None, false, IfOk};
+ghost use Rattle.std.specs.Result.{result_unwrap_or};
 ghost use Rattle.links.specs.Links as links;
 ghost use Rattle.links.specs.Look.{terminating_of};
 ghost use Rattle.state.specs.Holding.{state_holds, StateHolds};
@@ -8,12 +10,12 @@ ghost use Rattle.controller.specs.Answers.{terminating_reason};
 ghost use Rattle.controller.specs.Asked.{refusal_number, about_state};
 
 use crate::questions;
-use crate::refusal::{ACCEPTED, Refusal, number_of};
+use crate::refusal::{ACCEPTED, Refusal};
 use links::Links;
 use profile::{ControllerRow, Rows};
 use state::Controller;
 
-// What a query finds stands beside a number, also where it is a flag: C gets it by value.
+// What a query finds stands beside a number here and in the structs below, and is no Result: C gets it by value.
 #[repr(C)]
 #[derive(Clone, Copy)]
 pub struct Connected {
@@ -21,14 +23,7 @@ pub struct Connected {
     pub connected: bool,
 }
 
-// In the form of the other queries, though C does not get it.
-#[derive(Clone, Copy)]
-pub struct DisconnectWaits {
-    pub number: u8,
-    pub reason: Option<u8>,
-}
-
-// The same for C: 0 where no Disconnect waits, since no reason is 0.
+// The reason of a Disconnect that waits, 0 where none does, since no reason is 0.
 #[repr(C)]
 #[derive(Clone, Copy)]
 pub struct ReasonTold {
@@ -78,30 +73,31 @@ pub fn wegrulsta_has_connection(profile: ControllerRow, s: Controller, handle: u
 {
     let found = asked(profile, s, |links| links::has(links, handle));
     Connected {
-        number: number_of(found),
+        number: hci::number_of(found),
         connected: found.unwrap_or(false),
     }
 }
 
 // The reason of the host's Disconnect of this link, while the peer has not acknowledged it.
-pub fn terminating(profile: ControllerRow, s: Controller, handle: u16) -> DisconnectWaits
-    ensures { Finds profile s (λ m. terminating_of handle m.links.connections) None result.number result.reason }
+pub fn terminating(
+    profile: ControllerRow,
+    s: Controller,
+    handle: u16,
+) -> Result<Option<u8>, Refusal>
+    ensures { Finds profile s (λ m. terminating_of handle m.links.connections) None
+        (refusal_number result) (result_unwrap_or result None) }
 {
-    let found = asked(profile, s, |links| links::terminating(links, handle));
-    DisconnectWaits {
-        number: number_of(found),
-        reason: found.unwrap_or(None),
-    }
+    asked(profile, s, |links| links::terminating(links, handle))
 }
 
 // The same for C, to which no enum crosses.
 pub fn wegrulsta_terminating(profile: ControllerRow, s: Controller, handle: u16) -> ReasonTold
     ensures { Finds profile s (terminating_reason handle) 0 result.number result.reason }
 {
-    let r = terminating(profile, s, handle);
+    let found = terminating(profile, s, handle);
     ReasonTold {
-        number: r.number,
-        reason: r.reason.unwrap_or(0),
+        number: hci::number_of(found),
+        reason: found.unwrap_or(None).unwrap_or(0),
     }
 }
 
@@ -111,7 +107,7 @@ pub fn wegrulsta_free_handle(profile: ControllerRow, s: Controller) -> FreeHandl
 {
     let found = asked(profile, s, |links| links::free_handle(links));
     FreeHandle {
-        number: number_of(found),
+        number: hci::number_of(found),
         handle: found.unwrap_or(0),
     }
 }
@@ -122,7 +118,7 @@ pub fn wegrulsta_buffers_in_use(profile: ControllerRow, s: Controller) -> InUse
 {
     let found = asked(profile, s, |links| links::buffers_in_use(links));
     InUse {
-        number: number_of(found),
+        number: hci::number_of(found),
         count: found.unwrap_or(0),
     }
 }

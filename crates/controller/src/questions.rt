@@ -41,8 +41,8 @@ pub fn about_events(profile: ControllerRow, held: bool, room: usize) -> Result<(
 fn pool_fits(profile: ControllerRow, pool: usize) -> bool
     ensures { result ≡ leb (profile.acl_count * place_size profile) pool }
 {
-    let size = state::place_size(profile);
-    let least = usize::from(profile.acl_count) * size;
+    let places = state::places(profile);
+    let least = places.count * places.size;
     least <= pool
 }
 
@@ -58,7 +58,8 @@ pub fn about_pool(profile: ControllerRow, held: bool, pool: usize) -> Result<(),
     PASSED
 }
 
-// 1, 2: do the rows fit?, 3, 4 and 5. Gives the rows.
+// 1, 2: do the rows fit?, 3, 4 and 5. Gives the rows. They come as three slices, as C hands them in: that they are `Rows` is what
+// question 2 asks.
 #[tactic(auto, unfolding(calls::specs::Calls::first_no))]
 pub fn about_packet<'a>(
     profile: ControllerRow,

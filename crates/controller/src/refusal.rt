@@ -1,7 +1,7 @@
 // Why a call is refused, and what a refused call answers: the state as it came, nothing written, and the refusal's number. The
 // answers are made inline, or the compiler would hand the state on (docs/SPEED.md).
 ghost use Rattle.std.specs.Prelude.{◌≡◌};
-ghost use Rattle.controller.specs.Asked.{number_of, refusal_number};
+ghost use Rattle.controller.specs.Asked.{number_of};
 
 use crate::{Changed, Told, Took};
 use state::Controller;
@@ -42,16 +42,6 @@ impl From<Refusal> for u8 {
             Refusal::Handle => 6,
             Refusal::PacketRoom => 7,
         }
-    }
-}
-
-// The number of what a function gives that asks.
-pub fn number_of<T: Copy>(asked: Result<T, Refusal>) -> u8
-    ensures { result ≡ refusal_number asked }
-{
-    match asked {
-        Ok(_) => ACCEPTED,
-        Err(refusal) => refusal.into(),
     }
 }
 

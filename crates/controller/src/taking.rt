@@ -26,9 +26,8 @@ pub fn wegrulsta_take(
     if let Err(refusal) = questions::about_pool(profile, held, pool.len()) {
         return refusal.took(s);
     }
-    let size = state::place_size(profile);
-    let places = usize::from(profile.acl_count);
-    let Some(r) = transmit::take(s.links, pool, size, places, handle, max, out) else {
+    let places = state::places(profile);
+    let Some(r) = transmit::take(s.links, pool, places, handle, max, out) else {
         return Refusal::PacketRoom.took(s);
     };
     let waiting = r.waiting;

@@ -1,8 +1,9 @@
-// What the link tells the controller, for C.
+// What the link tells the controller, for C, which hands in a link's three parameters one by one.
 ghost use Rattle.calls.specs.Calls as call;
 ghost use Rattle.controller.specs.Answers.{Tells, Changes, is_random};
 
 use controller::{Changed, Told};
+use links::Timing;
 use profile::ControllerRow;
 use state::Controller;
 
@@ -18,7 +19,12 @@ pub extern "C" fn wegrulsta_open(
 ) -> Changed
     ensures { Changes profile (call.open_connection handle interval latency timeout) s result }
 {
-    controller::open_connection(profile, s, handle, interval, latency, timeout)
+    let timing = Timing {
+        interval,
+        latency,
+        timeout,
+    };
+    controller::open_connection(profile, s, handle, timing)
 }
 
 // A central's request to connect was accepted, from an address that is public where its type is 0. Questions 5 and 6.
@@ -38,9 +44,12 @@ pub extern "C" fn wegrulsta_accept(
     ensures { Tells profile (call.accept_connection handle (is_random peer_type) peer.now interval latency timeout sca)
         s out.old result out.new }
 {
-    controller::accept_connection(
-        profile, s, handle, peer_type, peer, interval, latency, timeout, sca, out,
-    )
+    let timing = Timing {
+        interval,
+        latency,
+        timeout,
+    };
+    controller::accept_connection(profile, s, handle, peer_type, peer, timing, sca, out)
 }
 
 // High duty cycle directed advertising ended unanswered.
@@ -68,7 +77,12 @@ pub extern "C" fn wegrulsta_update(
 ) -> Told
     ensures { Tells profile (call.peer_update handle interval latency timeout) s out.old result out.new }
 {
-    controller::peer_update(profile, s, handle, interval, latency, timeout, out)
+    let timing = Timing {
+        interval,
+        latency,
+        timeout,
+    };
+    controller::peer_update(profile, s, handle, timing, out)
 }
 
 // A central starts encryption.

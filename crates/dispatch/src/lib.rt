@@ -37,6 +37,7 @@ pub enum Part {
 }
 
 // A part of the state, by which `part` names it, whose commands are carried out here: the part as it is to be, and the answer.
+// `requires` rules other opcodes out, so the last arm of each match is never reached.
 pub trait CommandPart: StatePart {
     ghost part: { Part };
 
@@ -55,7 +56,7 @@ fn exactly<const N: usize>(p: &[u8]) -> &[u8; N]
     p.as_array().unwrap()
 }
 
-// The part for each place of the table of commands.
+// The part for each place of the table of commands: a column of that table, which `commands` below cannot name.
 const PARTS: [Part; 71] = [
     Part::Links,
     Part::Nothing,

@@ -20,11 +20,14 @@ impl CommandPart for Links {
             }
             0x2013 => link::connection_update(s, exactly(p)),
             0x201A => link::long_term_key_reply(s, exactly(p)),
-            0x201B => link::long_term_key_negative_reply(s, exactly(p)),
+            0x201B => {
+                let outcome = link::long_term_key_negative_reply(s, exactly(p));
+                Answered::done_handle(s.links, outcome, octets::word_at(p, 0))
+            }
             0x2020 => link::parameter_request_reply(s, exactly(p)),
             0x2022 => link::set_data_length(s, profile, exactly(p)),
-            // 0x2032: `requires` rules any other out.
-            _ => privacy::set_phy(s, profile, exactly(p)),
+            0x2032 => privacy::set_phy(s, profile, exactly(p)),
+            _ => unreachable!(),
         }
     }
 }

@@ -15,8 +15,8 @@ impl CommandPart for AcceptList {
         let outcome = match op {
             0x2010 => air::clear_accept_list(s),
             0x2011 => air::add_to_accept_list(s, profile, exactly(p)),
-            // 0x2012: `requires` rules any other out.
-            _ => air::remove_from_accept_list(s, exactly(p)),
+            0x2012 => air::remove_from_accept_list(s, exactly(p)),
+            _ => unreachable!(),
         };
         Answered::done(s.accept_list, outcome)
     }
@@ -36,8 +36,8 @@ impl CommandPart for ResolvingList {
             0x2027 => privacy::add_to_resolving_list(s, profile, exactly(p)),
             0x2028 => privacy::remove_from_resolving_list(s, exactly(p)),
             0x2029 => privacy::clear_resolving_list(s),
-            // 0x204E: `requires` rules any other out.
-            _ => privacy::set_privacy_mode(s, exactly(p)),
+            0x204E => privacy::set_privacy_mode(s, exactly(p)),
+            _ => unreachable!(),
         };
         Answered::done(s.resolving_list, outcome)
     }

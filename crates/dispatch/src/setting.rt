@@ -15,8 +15,8 @@ impl CommandPart for Masks {
         let masks = match op {
             0x0C01 => known::set_event_mask(s.masks, exactly(p)),
             0x0C63 => known::set_event_mask_page2(s.masks, exactly(p)),
-            // 0x2001: `requires` rules any other out.
-            _ => air::set_le_event_mask(s.masks, exactly(p)),
+            0x2001 => air::set_le_event_mask(s.masks, exactly(p)),
+            _ => unreachable!(),
         };
         Answered::done(s.masks, Ok(masks))
     }
@@ -36,11 +36,14 @@ impl CommandPart for Settings {
             0x2031 => privacy::set_default_phy(s, profile, exactly(p)),
             0x201D => test_and_power::receiver_test(s, profile, exactly(p)),
             0x201E => test_and_power::transmitter_test(s, profile, exactly(p)),
-            0x201F => return test_and_power::test_end(s),
+            0x201F => {
+                let outcome = test_and_power::test_end(s);
+                return Answered::returning(s.settings, outcome, &[0, 0]);
+            }
             0x2033 => test_and_power::receiver_test_v2(s, profile, exactly(p)),
             0x2034 => test_and_power::transmitter_test_v2(s, profile, exactly(p)),
-            // 0x204D: `requires` rules any other out.
-            _ => test_and_power::write_path_compensation(s, exactly(p)),
+            0x204D => test_and_power::write_path_compensation(s, exactly(p)),
+            _ => unreachable!(),
         };
         Answered::done(s.settings, outcome)
     }
@@ -60,8 +63,8 @@ impl CommandPart for Advertising {
             0x2006 => air::set_advertising_parameters(s, exactly(p)),
             0x2008 => air::set_advertising_data(s, exactly(p)),
             0x2009 => air::set_scan_response_data(s, exactly(p)),
-            // 0x200A: `requires` rules any other out.
-            _ => air::set_advertising_enable(s, exactly(p)),
+            0x200A => air::set_advertising_enable(s, exactly(p)),
+            _ => unreachable!(),
         };
         Answered::done(s.advertising, outcome)
     }
@@ -76,8 +79,8 @@ impl CommandPart for Scanning {
             0x200B => Answered::done(s.scanning, air::set_scan_parameters(s, exactly(p))),
             0x200C => Answered::done(s.scanning, air::set_scan_enable(s, exactly(p))),
             0x200D => Answered::status(s.scanning, air::create_connection(s, exactly(p))),
-            // 0x200E: `requires` rules any other out.
-            _ => air::create_connection_cancel(s),
+            0x200E => air::create_connection_cancel(s),
+            _ => unreachable!(),
         }
     }
 }

@@ -1,21 +1,20 @@
 -- A flat array of entries of w octets each: where the entry at a place stands, and what the stores of this crate do to
 -- the list of entries. For the loops and the stores of both lists.
-use Rattle.std.specs.Prelude.{Some, None, position}
+use Rattle.std.specs.Prelude.{Option, Some, None, position, IfSome}
+use Rattle.std.specs.Simd.{first_chunks}
 use Prim.Native.Nat.{ℕ, zero, suc, ◌+◌, ◌-◌, ◌*◌, ◌≤◌, ◌<◌}
 use native.Mathlib.Nat.{le_of_suc-le-suc, add_comm, add-zero, suc-mul, zero-mul, zero-add, mul-le-mul_right, add-mul}
 use native.Mathlib.Omega.{arith}
 use native.Mathlib.Numerals.{add-one}
-use mathlib.Core.Bool.{Bool, true, false}
-use mathlib.Core.Path.{◌≡◌, sym, ap, ◌∙◌}
+use mathlib.Core.Bool.{Bool}
+use mathlib.Core.Path.{◌≡◌, refl, sym, ap, ◌∙◌}
 use mathlib.Core.List.{List, [], ◌∷◌, ◌++◌, append_assoc, append-nil}
-use lib.Dec.{ltb}
-use lib.ListN.{drop_of_length-le, length, take, drop, set, length-drop, length-set}
+use lib.ListN.{length, take, drop, set, length-drop, length-set}
 use lib.Seq.{take_all, drop-append-add, drop-drop, length-take-le, take-set-le, take-set-lt, drop-set-lt}
 use lib.Seq.{drop-set-add, take-suc-set}
 use borrow.Rule.Slice.PartMut.{mid_of, put_mid}
-use Rattle.lists.specs.Lists.{first_at, any, update_first, chunks}
-use Rattle.lists.proofs.Search.{Searching, first_here, first_skip, position_some, position_none}
-use Rattle.lists.proofs.Tests.{any_first}
+use Rattle.lists.specs.Lists.{first_at, update_first, chunks}
+use Rattle.lists.proofs.Search.{position_some, position_none}
 use Rattle.lists.proofs.Update.{update_at}
 use Rattle.lists.proofs.Chunks.{length_chunks, get_d_chunks, chunks_append, chunks_take, chunks_add, take_chunks, chunks_push}
 use Rattle.octets.specs.Octets.{splice, Put}
@@ -35,40 +34,23 @@ module _ (w : ℕ) where
       let e : n ≡ p + suc m = omega arith in
       omega (arith, ap (λ (k : ℕ). k * w) e, add-mul p (suc m) w, suc-mul m w)
 
-  -- ---- a search of the entries: the one at i passes, it fails, and the end
+  -- the first n of the parts that the library cuts a list into
+  pub first_entries : (n m : ℕ) (l : List ℕ) (xs : List (List ℕ)) → xs ≡ first_chunks w m l → n ≤ m → take n xs ≡ chunks w n l
+  unfolding chunks
+  first_entries zero m l xs e h = refl
+  first_entries (suc n) zero l xs e h = absurd (omega arith)
+  first_entries (suc n) (suc m) l xs e h =
+      rw e (ap (◌∷◌ (take w l)) (first_entries n m (drop w l) _ refl (le_of_suc-le-suc h)))
+
+  -- ---- a search of the entries
   module _ (n : ℕ) (l : List ℕ) (p : List ℕ → Bool) where
-    long : n ≤ length (chunks w n l)
-    long = omega (arith, length_chunks w n l)
-
-    whole : take n (chunks w n l) ≡ chunks w n l
-    whole = take_all n (chunks w n l) (omega (arith, length_chunks w n l))
-
-    pub entry_here : (i : ℕ) → Searching p (chunks w n l) i → p (take w (drop (i * w) l)) ≡ true → i < n
-        → i ≡ first_at p (chunks w n l)
-    entry_here i inv e h =
-        rw whole at
-        (first_here (chunks w n l) n p i [] (rw whole inv) (rw (get_d_chunks w n l i [] h) e) h long)
-
-    pub entry_skip : (i : ℕ) → Searching p (chunks w n l) i → p (take w (drop (i * w) l)) ≡ false → i < n
-        → Searching p (chunks w n l) (i + 1)
-    entry_skip i inv e h =
-        rw whole at
-        (first_skip (chunks w n l) n p i [] (rw whole inv) (rw (get_d_chunks w n l i [] h) e) h long)
-
-    pub entry_end : (i : ℕ) → Searching p (chunks w n l) i → n ≤ i → i ≡ first_at p (chunks w n l)
-    unfolding first_at
-    entry_end i inv h =
-        let past : drop i (chunks w n l) ≡ [] = drop_of_length-le (chunks w n l) (omega (arith, length_chunks w n l)) in
-        let z : first_at p (drop i (chunks w n l)) ≡ 0 = rw past in
-        omega arith
-
-    -- the place that is found is below n exactly if there is such an entry
-    pub entry_found : (i : ℕ) → i ≡ first_at p (chunks w n l) → ltb i n ≡ any p (chunks w n l)
-    entry_found i e = rw e (sym (rw length_chunks at (any_first p (chunks w n l))))
-
-    -- the same of a search's answer
+    -- what a search answers
     pub entry_place : (i : ℕ) → position p (chunks w n l) ≡ Some i → (i ≡ first_at p (chunks w n l)) × (i < n)
     entry_place i e = rw length_chunks at (position_some p (chunks w n l) i e)
+
+    pub place_within : (o : Option ℕ) → o ≡ position p (chunks w n l) → IfSome o (λ place. place < n)
+    place_within None e = tt
+    place_within (Some i) e = (entry_place i (sym e)).1
 
     pub entry_none : position p (chunks w n l) ≡ None → length (chunks w n l) ≤ first_at p (chunks w n l)
     entry_none e = position_none p (chunks w n l) e

@@ -3,17 +3,19 @@
 use Prim.Native.Nat.{ℕ, ◌+◌, ◌*◌, ◌/◌, ◌%◌, ◌≤◌, ◌<◌}
 use native.Mathlib.Decide.{dec_lt}
 use native.Mathlib.Omega.{arith}
-use mathlib.Core.Path.{◌≡◌, sym, ap, ap₂, ◌∙◌}
-use mathlib.Core.List.{List, []}
+use mathlib.Core.Bool.{Bool}
+use mathlib.Core.Path.{◌≡◌, refl, sym, ap, ap₂, ◌∙◌}
+use mathlib.Core.List.{List, [], ◌∷◌, map}
 use lib.Dec.{eqb}
-use lib.ListN.{length, take, drop, get_or, length-take, length-drop, take-append-drop, get_or-eq_default}
-use lib.Seq.{get_or-take, get_or-drop, take_all, take-take, length-take-le}
+use lib.ListN.{length, take, drop, get_or, length-map, length-take, length-drop, take-append-drop, get_or-eq_default}
+use lib.Seq.{get_or-take, get_or-drop, take_all, length-take-le}
 use mir.Syntax.{w8}
 use mir.Val.{Fits}
-use borrow.Author.Tests.{eq-eqb, ne_eqb, eqb-true, eqb-false}
+use borrow.Author.Tests.{eqb-true, eqb-false}
 use borrow.Table.Steps.{cases}
+use Rattle.std.specs.Prelude.{position}
 use Rattle.lists.specs.Lists.{first_at, any, keyed, distinct, same_list, chunks}
-use Rattle.lists.proofs.Search.{Searching}
+use Rattle.lists.proofs.Search.{position_first}
 use Rattle.lists.proofs.Same.{same_equal, same_self, eqb_sym}
 use Rattle.lists.proofs.Chunks.{length_chunks, get_d_chunks}
 use Rattle.lists.proofs.Agree.{first_agree, any_agree_at, distinct_agree}
@@ -21,7 +23,7 @@ use Rattle.octets.specs.Octets.{octet, le, number_at}
 use Rattle.octets.proofs.Numbers.{le_number, number_front}
 use Rattle.filters.specs.Filters.{has_identity, identities_differ, entries_differ}
 use Rattle.filters.specs.Keys.{key_of, low_of}
-use Rattle.filters.proofs.Flat.{within, entry_here, entry_skip, entry_end}
+use Rattle.filters.proofs.Flat.{within}
 
 -- ---- octets below 256, in a list and in a part of it
 abbrev pub Octets : List ℕ → Type 0
@@ -72,6 +74,12 @@ low_part x below = omega (arith, (below 0).fits, (below 1).fits, (below 2).fits,
 pub same_low : (a b : List ℕ) → Octets a → Octets b → key_of a ≡ key_of b → low_of a ≡ low_of b
 same_low a b oa ob e = low_part a oa ∙ ap (λ (k : ℕ). k / 256 % 4294967296) e ∙ sym (low_part b ob)
 
+-- ---- a search of what f gives of each element
+first_map : {A B : Type 0} (f : A → B) (p : B → Bool) (l : List A) → first_at p (map f l) ≡ first_at (λ a. p (f a)) l
+unfolding first_at
+first_map f p [] = refl
+first_map f p (a ∷ l) = rw (first_map f p l)
+
 -- ---- an entry with the key of `identity` is one with that identity
 pub key_identity : (identity entry : List ℕ) → length identity ≡ 7 → 7 ≤ length entry → Octets identity → Octets entry
     → keyed key_of (key_of identity) entry ≡ has_identity identity entry
@@ -89,35 +97,6 @@ module _ (w n : ℕ) (l : List ℕ) (wide : 7 ≤ w) (fits : n * w ≤ length l)
   pub entry_octets : Octets l → (i : ℕ) → i < n → Octets (get_or (chunks w n l) i [])
   entry_octets o i h = rw (get_d_chunks w n l i [] h) (octets_take w (drop (i * w) l) (octets_drop (i * w) l o))
 
-  -- the numbers that are read where an entry stands are the entry's
-  pub entry_key : (i : ℕ) → i < n → key_of (drop (i * w) l) ≡ key_of (take w (drop (i * w) l))
-  entry_key i h =
-      let x = drop (i * w) l in
-      let long : w ≤ length x = simp length-drop (omega (arith, within w n i h)) in
-      sym (key_front x (omega arith))
-      ∙ rw (← take-take 7 w x wide) (key_front (take w x) (omega (arith, length-take-le w x long)))
-
-  pub entry_low : Octets l → (i : ℕ) → i < n → low_of (drop (i * w) l) ≡ low_of (take w (drop (i * w) l))
-  entry_low o i h =
-      let x = drop (i * w) l in
-      let below = octets_drop (i * w) l o in
-      same_low x (take w x) below (octets_take w x below) (entry_key i h)
-
-  -- ---- the loop that looks for a key: a turn that finds it, one that goes on, and the end
-  pub seek_here : {key i : ℕ} (read : ℕ) → Searching (keyed key_of key) (chunks w n l) i → read ≡ key_of (drop (i * w) l)
-      → read ≡ key → i < n → i ≡ first_at (keyed key_of key) (chunks w n l)
-  seek_here {key} {i} read g e found h =
-      entry_here w n l (keyed key_of key) i g (eq-eqb _ _ (sym (entry_key i h) ∙ sym e ∙ found)) h
-
-  pub seek_on : {key i : ℕ} (read : ℕ) → Searching (keyed key_of key) (chunks w n l) i → read ≡ key_of (drop (i * w) l)
-      → (read ≡ key → ⊥) → i < n → Searching (keyed key_of key) (chunks w n l) (i + 1)
-  seek_on {key} {i} read g e other h =
-      entry_skip w n l (keyed key_of key) i g (ne_eqb _ _ (λ k. other (e ∙ entry_key i h ∙ k))) h
-
-  pub seek_end : (key i : ℕ) → Searching (keyed key_of key) (chunks w n l) i → n ≤ i
-      → i ≡ first_at (keyed key_of key) (chunks w n l)
-  seek_end key i g h = entry_end w n l (keyed key_of key) i g h
-
   -- a search by the key finds what a search of the identity finds
   pub first_key : (identity : List ℕ) (key : ℕ) → key ≡ key_of identity → length identity ≡ 7 → Octets identity → Octets l
       → first_at (keyed key_of key) (chunks w n l) ≡ first_at (has_identity identity) (chunks w n l)
@@ -126,6 +105,14 @@ module _ (w n : ℕ) (l : List ℕ) (wide : 7 ≤ w) (fits : n * w ≤ length l)
       (λ i h.
       let b : i < n = rw length_chunks at h in
       rw e (key_identity identity (get_or (chunks w n l) i []) li (omega (arith, entry_length i b)) oi (entry_octets ol i b)))
+
+  -- the same of the library's search of the keys
+  pub position_key : (identity : List ℕ) (key : ℕ) → key ≡ key_of identity → length identity ≡ 7 → Octets identity → Octets l
+      → position (λ k. eqb k key) (map key_of (chunks w n l)) ≡ position (has_identity identity) (chunks w n l)
+  position_key identity key e li oi ol =
+      let xs = chunks w n l in
+      let same = first_map key_of (λ k. eqb k key) xs ∙ first_key identity key e li oi ol in
+      position_first (λ k. eqb k key) (map key_of xs) ∙ rw (same, length-map) (sym (position_first (has_identity identity) xs))
 
   -- the entries differ exactly if their keys do
   pub differ_key : Octets l → distinct key_of (chunks w n l) ≡ identities_differ (chunks w n l)

@@ -1,10 +1,9 @@
 // The accept list (Core Vol 4 Part E sections 7.8.15 to 7.8.17): entries of a type and an address, oldest first.
-ghost use Rattle.std.specs.Prelude.{◌≡◌, [], ◌≤◌, length, true, false, MatchOption};
+ghost use Rattle.std.specs.Prelude.{◌≡◌, [], ◌≤◌, true, false, MatchOption};
 ghost use Rattle.filters.specs.Filters.{accept_entries, accept_entry, contains_entry, added, is_full, removed, entries_differ};
 
 use crate::differ::entries_differ;
 use crate::keys::{cut, place_of};
-use crate::resolving::identity;
 
 #[repr(C)]
 #[derive(Clone, Copy)]
@@ -30,7 +29,7 @@ impl AcceptList {
         requires { self.count ≤ 32 }
         ensures { result ≡ contains_entry entry (accept_entries self) }
     {
-        place_of(&self.octets, 7, self.count, entry).is_some()
+        place_of::<7>(&self.octets, self.count, entry).is_some()
     }
 
     // Adds an entry: one that is present stays as it is, also where the list is full. None where it is full without it.
@@ -63,7 +62,7 @@ impl AcceptList {
         let mut octets = self.octets;
         let mut n = self.count;
         // The source takes out every equal entry, so a search follows each cut, over what is left.
-        while let Some(place) = place_of(&octets, 7, n, entry) {
+        while let Some(place) = place_of::<7>(&octets, n, entry) {
             cut(&mut octets, 7, n, place);
             n -= 1;
         }
@@ -72,14 +71,14 @@ impl AcceptList {
 }
 
 // The entry that a command's seven parameter octets name: for type 0xFF the address is zero.
-pub fn accept_entry(p: &[u8]) -> [u8; 7]
-    requires { length p.now ≡ 7 }
+#[tactic(auto, unfolding(crate::specs::Filters::accept_entry))]
+pub fn accept_entry(p: &[u8; 7]) -> [u8; 7]
     ensures { result ≡ accept_entry p.now }
 {
     if p[0] == 0xFF {
         return [0xFF, 0, 0, 0, 0, 0, 0];
     }
-    identity(p)
+    *p
 }
 
 // Whether all entries differ (question 3).
@@ -87,5 +86,5 @@ pub fn accept_entries_differ(list: AcceptList) -> bool
     requires { list.count ≤ 32 }
     ensures { result ≡ entries_differ (accept_entries list) }
 {
-    list.count < 2 || entries_differ(&list.octets, 7, list.count)
+    list.count < 2 || entries_differ::<7>(&list.octets, list.count)
 }

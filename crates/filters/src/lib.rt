@@ -1,8 +1,9 @@
 // The controller's two filter lists, each a flat array of octets beside its count: the accept list (32 entries of a type
 // and an address) and the resolving list (16 identities, each a type, an address and its privacy mode). For the commands
-// 0x2010 to 0x2012, 0x2027 to 0x2029 and 0x204E, and for question 3. Two types and not one: C's header names both, and no array's
-// length is computed from a parameter; what they share takes the width of an entry. C hands in any count, so no type can carry
-// that it is small: the functions ask for it, and question 3 finds it out. Contracts cite `specs/Filters.antt`.
+// 0x2010 to 0x2012, 0x2027 to 0x2029 and 0x204E, and for question 3. Two types and not one: both cross to C, and a struct with
+// const arguments, also by an alias, is refused in an exported function's signature (`[unsupported-generic-in-c]`); what they
+// share takes the width of an entry. C hands in any count, so no type can carry that it is small: the functions ask for it, and
+// question 3 finds it out. Contracts cite `specs/Filters.antt`.
 #![tactic(auto)]
 
 mod accept;

@@ -31,7 +31,7 @@ impl ResolvingList {
         requires { self.count ≤ 16 }
         ensures { result ≡ position (has_identity identity) (resolving_entries self) }
     {
-        place_of(&self.octets, 8, self.count, identity)
+        place_of::<8>(&self.octets, self.count, identity)
     }
 
     // Appends an identity with mode 0.
@@ -55,7 +55,7 @@ impl ResolvingList {
     {
         let mut octets = self.octets;
         let n = self.count;
-        let Some(place) = place_of(&octets, 8, n, identity) else {
+        let Some(place) = place_of::<8>(&octets, n, identity) else {
             return self;
         };
         cut(&mut octets, 8, n, place);
@@ -72,7 +72,7 @@ impl ResolvingList {
     {
         let mut octets = self.octets;
         let n = self.count;
-        let Some(place) = place_of(&octets, 8, n, identity) else {
+        let Some(place) = place_of::<8>(&octets, n, identity) else {
             return self;
         };
         octets[place * 8 + 7] = mode;
@@ -85,9 +85,7 @@ pub fn identity(p: &[u8]) -> [u8; 7]
     requires { 7 ≤ length p.now }
     ensures { result ≡ take 7 p.now }
 {
-    let mut identity = [0; 7];
-    identity.copy_from_slice(&p[..7]);
-    identity
+    octets::octets_at(p, 0)
 }
 
 // Whether all identities differ (question 3).
@@ -95,5 +93,5 @@ pub fn identities_differ(list: ResolvingList) -> bool
     requires { list.count ≤ 16 }
     ensures { result ≡ identities_differ (resolving_entries list) }
 {
-    list.count < 2 || entries_differ(&list.octets, 8, list.count)
+    list.count < 2 || entries_differ::<8>(&list.octets, list.count)
 }

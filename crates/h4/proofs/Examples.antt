@@ -5,7 +5,6 @@ use mathlib.Core.Path.{◌≡◌, refl}
 use mathlib.Core.List.{[], ◌∷◌, flatten}
 use Prim.Native.Nat.{◌+◌}
 use Rattle.h4.specs.Framing.{packet_length, by_indicator, whole, packets_up_to, packets, framed}
-use Rattle.h4.specs.declared.StreamError.TheVariants.{Undefined}
 
 -- the command Reset, 0x0C03, with no parameters
 reset : packet_length (0x01 ∷ 0x03 ∷ 0x0C ∷ 0x00 ∷ []) ≡ Ok (Some 4)
@@ -23,7 +22,7 @@ unfolding packet_length by_indicator
 iso = refl
 
 -- an indicator that is not defined
-undefined : packet_length (0x06 ∷ []) ≡ Err (Undefined 6)
+undefined : packet_length (0x06 ∷ []) ≡ Err (record { 0 = 6 })
 unfolding packet_length by_indicator
 undefined = refl
 
@@ -34,6 +33,6 @@ unfolding packets packets_up_to whole packet_length by_indicator
 split = refl
 
 -- an undefined indicator after a whole packet
-lost : framed (0x01 ∷ 0x03 ∷ 0x0C ∷ 0x00 ∷ 0x06 ∷ []) ≡ Err (Undefined 6)
+lost : framed (0x01 ∷ 0x03 ∷ 0x0C ∷ 0x00 ∷ 0x06 ∷ []) ≡ Err (record { 0 = 6 })
 unfolding framed packets packets_up_to whole packet_length by_indicator flatten
 lost = refl

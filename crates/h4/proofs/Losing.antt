@@ -1,59 +1,53 @@
 -- Where framing is lost: an undefined indicator follows the whole packets, and no octets behind mend it. For the stream.
 use Rattle.std.specs.Prelude.{Ok, Err}
-use mathlib.Core.Path.{◌≡◌, refl, sym, ap, ◌∙◌}
-use mathlib.Core.Logic.{◌⊎◌, inl, inr, ⊎_elim}
+use mathlib.Core.Path.{◌≡◌, refl, ap}
+use mathlib.Core.Logic.{◌⊎◌, inl, inr}
 use mathlib.Core.List.{List, ◌++◌}
-use mathlib.Core.Bool.{true, false, true≢false}
+use mathlib.Core.Bool.{false}
 use Prim.Native.Nat.{ℕ}
+use native.Mathlib.Omega.{arith}
 use Rattle.h4.specs.Framing.{packet_length, rest, whole_octets, framed_at, framed}
-use Rattle.h4.specs.Stream.{is_lost, lost}
-use Rattle.h4.proofs.Reading.{Said, lost_on, room_there, whole_lost}
+use Rattle.h4.specs.Stream.{lost}
+use Rattle.h4.specs.declared.UndefinedIndicator.{UndefinedIndicator}
+use Rattle.h4.proofs.Reading.{Said, lost_on, whole_lost}
 use Rattle.h4.proofs.Splitting.{rest_none, rest_append}
-use Rattle.h4.specs.declared.StreamError.TheVariants.{Undefined, NoRoom}
+
+-- framing gives whole packets, counted by their octets, or an indicator
+pub framed_answers : (p : List ℕ) → (framed p ≡ Ok (whole_octets p)) ⊎ ((i : UndefinedIndicator) × framed p ≡ Err i)
+unfolding framed
+framed_answers p = go (packet_length (rest p)) where
+  go : (r : Said) → (framed_at r (whole_octets p) ≡ Ok (whole_octets p))
+      ⊎ ((i : UndefinedIndicator) × framed_at r (whole_octets p) ≡ Err i)
+  go (Ok m) = inl refl
+  go (Err i) = inr (i, refl)
 
 -- framing is lost at an indicator where the octets after the whole packets say so, and only there
-pub framed_undefined : (p : List ℕ) (i : ℕ) → framed p ≡ Err (Undefined i) → packet_length (rest p) ≡ Err (Undefined i)
+pub framed_undefined : (p : List ℕ) (i : UndefinedIndicator) → framed p ≡ Err i → packet_length (rest p) ≡ Err i
 unfolding framed
 framed_undefined p i = go (packet_length (rest p)) where
-  go : (r : Said) → framed_at r (whole_octets p) ≡ Err (Undefined i) → r ≡ Err (Undefined i)
+  go : (r : Said) → framed_at r (whole_octets p) ≡ Err i → r ≡ Err i
   go (Ok m) e = cc
-  go (Err r) e = cc
+  go (Err j) e = cc
 
-pub undefined_framed : (p : List ℕ) (i : ℕ) → packet_length (rest p) ≡ Err (Undefined i) → framed p ≡ Err (Undefined i)
+pub undefined_framed : (p : List ℕ) (i : UndefinedIndicator) → packet_length (rest p) ≡ Err i → framed p ≡ Err i
 unfolding framed
 undefined_framed p i e = rw e
 
 -- framing that is lost is lost at the same indicator whatever comes behind
-pub lost_append : (p q : List ℕ) (i : ℕ) → framed p ≡ Err (Undefined i) → framed (p ++ q) ≡ Err (Undefined i)
+pub lost_append : (p q : List ℕ) (i : UndefinedIndicator) → framed p ≡ Err i → framed (p ++ q) ≡ Err i
 lost_append p q i e =
-    let u : packet_length (rest p ++ q) ≡ Err (Undefined i) = lost_on (rest p) q (Undefined i) (framed_undefined p i e) in
-    let r : rest (p ++ q) ≡ rest p ++ q = rest_append p q ∙ rest_none (rest p ++ q) (whole_lost (rest p ++ q) (Undefined i) u) in
-    undefined_framed (p ++ q) i (ap packet_length r ∙ u)
+    let u : packet_length (rest p ++ q) ≡ Err i = lost_on (rest p) q i (framed_undefined p i e) in
+    undefined_framed (p ++ q) i (rw (rest_append p q, rest_none (rest p ++ q) (whole_lost (rest p ++ q) i u)) u)
 
 -- it turns on the octets after the whole packets alone
 pub lost_by_rest : (p q : List ℕ) → rest p ≡ rest q → lost p ≡ lost q
-unfolding framed
 lost_by_rest p q e =
-    ap (λ (t : List ℕ). is_lost (framed_at (packet_length t) (whole_octets p))) e ∙ any (packet_length (rest q)) where
-      any : (r : Said) → is_lost (framed_at r (whole_octets p)) ≡ is_lost (framed_at r (whole_octets q))
-      any (Ok m) = refl
-      any (Err (Undefined i)) = refl
-      any (Err NoRoom) = refl
-
--- framing answers whole packets or an indicator, nothing else
-pub framed_answers : (p : List ℕ) → (framed p ≡ Ok (whole_octets p)) ⊎ ((i : ℕ) × framed p ≡ Err (Undefined i))
-unfolding framed
-framed_answers p = go (packet_length (rest p)) refl where
-  go : (r : Said) → packet_length (rest p) ≡ r
-      → (framed_at r (whole_octets p) ≡ Ok (whole_octets p)) ⊎ ((i : ℕ) × framed_at r (whole_octets p) ≡ Err (Undefined i))
-  go (Ok m) e = inl refl
-  go (Err (Undefined i)) e = inr (i, refl)
-  go (Err NoRoom) e = absurd (room_there (rest p) e)
+    grind (arith, ap packet_length e, framed_answers p, framed_answers q, framed_undefined, undefined_framed)
 
 -- the whole packets are counted by their octets
 pub framed_count : (p : List ℕ) (n : ℕ) → framed p ≡ Ok n → n ≡ whole_octets p
-framed_count p n e = ⊎_elim (λ k. cc) (λ k. let l = k.1 in cc) (framed_answers p)
+framed_count p n e = grind (arith, framed_answers p)
 
--- where it is lost there is an indicator
-pub lost_at : (p : List ℕ) → lost p ≡ true → (i : ℕ) × framed p ≡ Err (Undefined i)
-lost_at p e = ⊎_elim (λ n. let z : true ≡ false = sym e ∙ ap is_lost n in absurd (true≢false z)) (λ h. h) (framed_answers p)
+-- where framing is not lost in all of it, it is not lost in the front
+pub kept_before : (p q : List ℕ) → lost (p ++ q) ≡ false → lost p ≡ false
+kept_before p q e = grind (arith, framed_answers p, framed_answers (p ++ q), lost_append p q)

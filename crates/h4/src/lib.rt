@@ -5,9 +5,9 @@
 
 ghost use Rattle.std.specs.Prelude.{◌≡◌, take};
 ghost use Rattle.h4.specs.Framing.{packet_length, framed, packet_at};
-ghost use Rattle.h4.specs.Stream.{Feeds};
+ghost use Rattle.h4.specs.Stream.{Feeds, stream_error};
 
-// Packet indicators (Core Vol 4 Part A section 2).
+// Packet indicators (Core Vol 4 Part A section 2). Numbers and no enum: they are octets of packets, matched where they stand.
 pub const H4_COMMAND: u8 = 0x01;
 
 pub const H4_ACL: u8 = 0x02;
@@ -21,17 +21,28 @@ pub const H4_ISO: u8 = 0x05;
 // The longest packet: the length fields of ACL and ISO data are 16 bits wide.
 pub const H4_MAX_PACKET: usize = 5 + 0xFFFF;
 
-// Why octets are not cut into packets: an indicator that is not defined, after which framing is lost, or a buffer that has no
-// room for them.
+// A packet indicator that is not defined: framing is lost there.
+#[derive(Clone, Copy)]
+pub struct UndefinedIndicator(pub u8);
+
+// Why a stream does not cut octets into packets: an indicator that is not defined, or a buffer that has no room for them.
 #[derive(Clone, Copy)]
 pub enum StreamError {
     Undefined(u8),
     NoRoom,
 }
 
+impl From<UndefinedIndicator> for StreamError {
+    ghost from_gives = { λ indicator error. error ≡ stream_error indicator };
+
+    fn from(indicator: UndefinedIndicator) -> StreamError {
+        StreamError::Undefined(indicator.0)
+    }
+}
+
 // How many octets the packet at the front takes, its indicator counted; None where there are too few octets to tell.
 #[tactic(auto, unfolding(crate::specs::Framing::packet_length, crate::specs::Framing::by_indicator))]
-pub fn h4_packet_len(bytes: &[u8]) -> Result<Option<usize>, StreamError>
+pub fn h4_packet_len(bytes: &[u8]) -> Result<Option<usize>, UndefinedIndicator>
     ensures { result ≡ packet_length bytes.now }
 {
     let n = match bytes {
@@ -40,13 +51,13 @@ pub fn h4_packet_len(bytes: &[u8]) -> Result<Option<usize>, StreamError>
         [H4_ACL, _, _, low, high, ..] => 5 + usize::from(u16::from_le_bytes([*low, *high])),
         [H4_ISO, _, _, low, high, ..] => 5 + usize::from(u16::from_le_bytes([*low, *high]) % 16384),
         [] | [H4_COMMAND..=H4_ISO, ..] => return Ok(None),
-        [other, ..] => return Err(StreamError::Undefined(*other)),
+        [other, ..] => return Err(UndefinedIndicator(*other)),
     };
     Ok(Some(n))
 }
 
 // Frames octets from their front: how many of them are whole packets. The step is a packet's length, so it is no `for`.
-fn frame(bytes: &[u8]) -> Result<usize, StreamError>
+fn frame(bytes: &[u8]) -> Result<usize, UndefinedIndicator>
     ensures { result ≡ framed bytes.now }
 {
     let mut at = 0;
@@ -61,25 +72,17 @@ fn frame(bytes: &[u8]) -> Result<usize, StreamError>
 // A stream over a buffer that the caller lends to each call: the first `ready` octets of the buffer are the packets of the
 // last feed, the next `held` octets wait for the rest of their packet.
 #[repr(C)]
-#[derive(Clone, Copy)]
+#[derive(Clone, Copy, Default)]
 pub struct H4Stream {
     pub ready: usize,
     pub held: usize,
-}
-
-// The stream after a feed, and its answer: the first so many octets of the buffer are whole packets, end to end and oldest
-// first; or framing is lost at an undefined indicator; or the buffer has no room for them, and nothing has changed.
-#[derive(Clone, Copy)]
-pub struct FedStream {
-    pub stream: H4Stream,
-    pub answer: Result<usize, StreamError>,
 }
 
 impl H4Stream {
     pub fn new() -> H4Stream
         ensures { (result.ready ≡ 0) × (result.held ≡ 0) }
     {
-        H4Stream { ready: 0, held: 0 }
+        H4Stream::default()
     }
 
     // How many octets wait.
@@ -90,29 +93,25 @@ impl H4Stream {
     }
 
     // Appends bytes to the octets that wait, which move to the front of the buffer over the packets handed out before, and
-    // frames them.
-    pub fn feed(self, buffer: &mut [u8], bytes: &[u8]) -> FedStream
-        ensures { Feeds self buffer.old bytes.now result buffer.new }
+    // frames them: the first so many octets of the buffer are whole packets, end to end and oldest first. Where an indicator is
+    // not defined, all of them wait; where the buffer has no room for them, nothing has changed.
+    pub fn feed(&mut self, buffer: &mut [u8], bytes: &[u8]) -> Result<usize, StreamError>
+        ensures { Feeds self.old buffer.old bytes.now result self.new buffer.new }
     {
-        let H4Stream { ready, held } = self;
+        let H4Stream { ready, held } = *self;
         let room = buffer.len();
         if room < ready || room - ready < held || room - held < bytes.len() {
-            return FedStream {
-                stream: self,
-                answer: Err(StreamError::NoRoom),
-            };
+            return Err(StreamError::NoRoom);
         }
         let at = octets::move_to_front(buffer, ready, held);
         let end = octets::put(buffer, at, bytes);
-        let answer = frame(&buffer[..end]);
-        let ready = answer.unwrap_or(0);
-        FedStream {
-            stream: H4Stream {
-                ready,
-                held: end - ready,
-            },
-            answer,
-        }
+        *self = H4Stream {
+            ready: 0,
+            held: end,
+        };
+        self.ready = frame(&buffer[..end])?;
+        self.held -= self.ready;
+        Ok(self.ready)
     }
 
     // Hands out the packet of the last feed that starts at index at, as a part of the buffer: empty where there is none.
@@ -121,9 +120,7 @@ impl H4Stream {
         ensures { result.now ≡ packet_at (take self.ready buffer.now) at }
     {
         let end = self.ready.min(buffer.len());
-        if end <= at {
-            return &buffer[..0];
-        }
+        let at = at.min(end);
         front_packet(&buffer[at..end])
     }
 }

@@ -3,7 +3,7 @@
 // cites a definition of `specs/` or of the library.
 #![tactic(auto)]
 
-ghost use Rattle.std.specs.Prelude.{◌≡◌, ◌==◌, position};
+ghost use Rattle.std.specs.Prelude.{◌≡◌, ◌==◌, position, MatchResult};
 ghost use Rattle.hci.specs.Opcode.{opcode_of, is_async};
 
 mod bits;
@@ -12,8 +12,8 @@ mod write;
 
 pub use bits::{MaskError, mask_has, set_bit};
 pub use h4::{
-    FedStream, H4_ACL, H4_COMMAND, H4_EVENT, H4_ISO, H4_MAX_PACKET, H4_SCO, H4Stream, StreamError,
-    h4_packet_len,
+    H4_ACL, H4_COMMAND, H4_EVENT, H4_ISO, H4_MAX_PACKET, H4_SCO, H4Stream, StreamError,
+    UndefinedIndicator, h4_packet_len,
 };
 pub use read::{Acl, Command, ReadError, acl_data};
 pub use write::{
@@ -102,12 +102,24 @@ pub mod mask {
 }
 
 // Packet_Boundary_Flag values (Core Vol 4 Part E section 5.4.2): the first part of a packet from the host, a part that
-// goes on, and the first part of a packet that may be flushed, which a controller uses towards the host.
+// goes on, and the first part of a packet that may be flushed, which a controller uses towards the host. Numbers and no enum: a
+// header has any of four, and C hands one in.
 pub const PB_FIRST_NON_FLUSHABLE: u8 = 0b00;
 
 pub const PB_CONTINUING: u8 = 0b01;
 
 pub const PB_FIRST_FLUSHABLE: u8 = 0b10;
+
+// The number of an answer: 0, or that of its error. Inline, or what was found would be copied once more.
+#[inline(always)]
+pub fn number_of<T: Copy, E: Into<u8>>(answer: Result<T, E>) -> u8
+    ensures { MatchResult answer (λ found. result ≡ 0) (λ e. E.converts e result) }
+{
+    match answer {
+        Ok(_) => 0,
+        Err(e) => e.into(),
+    }
+}
 
 // The opcode group of vendor commands.
 pub const OGF_VENDOR: u16 = 0x3F;

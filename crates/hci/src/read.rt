@@ -43,7 +43,7 @@ impl Command {
 }
 
 // An ACL data packet: the handle in the low 12 bits of its first word, the packet boundary flag in bits 12 and 13, the broadcast
-// flag in bits 14 and 15, and how many octets of data follow the first five.
+// flag in bits 14 and 15, and how many octets of data follow the first five. The flags are numbers: each may be any of four.
 #[derive(Clone, Copy)]
 pub struct Acl {
     pub handle: u16,

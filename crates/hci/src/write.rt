@@ -109,6 +109,7 @@ pub fn number_of_completed_packets(
     if out.len() < 4 + 4 * k {
         return Err(WriteError::NoRoom);
     }
+    // By `as`: at most 63 pairs, and `try_from` would want a branch that no run takes.
     let at = octets::put(
         out,
         0,

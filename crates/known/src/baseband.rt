@@ -52,16 +52,15 @@ pub fn read_transmit_power(profile: ControllerRow, p: &[u8; 3], links: Links) ->
     ensures { Answers (definition.read_transmit_power profile p.now (opened links)) result }
 {
     let handle = octets::word_at(p, 0);
-    let [low, high] = handle.to_le_bytes();
     let power = match p[2] {
         0 => profile.adv_tx_power,
         1 => profile.tx_power_max.min(20),
-        _ => return answers::complete(&[INVALID_PARAMETERS, low, high, 0]),
+        _ => return commands::about(INVALID_PARAMETERS, handle, &[0]),
     };
     if !links::has(links, handle) {
-        return answers::complete(&[UNKNOWN_CONNECTION, low, high, 0]);
+        return commands::about(UNKNOWN_CONNECTION, handle, &[0]);
     }
-    answers::complete(&[SUCCESS, low, high, power.cast_unsigned()])
+    commands::about(SUCCESS, handle, &[power.cast_unsigned()])
 }
 
 // Set Controller To Host Flow Control (section 7.3.38): kept, and nothing more.
@@ -107,13 +106,9 @@ pub fn read_auth_payload_timeout(p: &[u8; 2], links: Links) -> Answer
     ensures { Answers (definition.read_auth_payload_timeout p.now (opened links)) result }
 {
     let handle = octets::word_at(p, 0);
-    let [low, high] = handle.to_le_bytes();
     match links::connection_of(links, handle) {
-        None => answers::complete(&[UNKNOWN_CONNECTION, low, high, 0, 0]),
-        Some(c) => {
-            let [timeout_low, timeout_high] = c.auth_payload_timeout.to_le_bytes();
-            answers::complete(&[SUCCESS, low, high, timeout_low, timeout_high])
-        }
+        Some(c) => commands::about(SUCCESS, handle, &c.auth_payload_timeout.to_le_bytes()),
+        None => commands::about(UNKNOWN_CONNECTION, handle, &[0; 2]),
     }
 }
 

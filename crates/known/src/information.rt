@@ -10,7 +10,8 @@ use hci::status::{SUCCESS, UNKNOWN_CONNECTION};
 use links::Links;
 use profile::ControllerRow;
 
-// Read Local Version Information (section 7.4.1).
+// Read Local Version Information (section 7.4.1). Octets stand between its words, here and in Read Remote Version Information:
+// the words of an array mapped to octets would be taken apart again.
 #[tactic(auto, unfolding(commands::specs::Known::read_local_version))]
 pub fn read_local_version(profile: ControllerRow) -> Answer
     ensures { Answers (definition.read_local_version profile) result }

@@ -1,7 +1,7 @@
 // The longest data packets: of a link, and those suggested for new links.
-ghost use Rattle.std.specs.Prelude.{◌≡◌, ◌+◌, ◌≤◌, length};
-ghost use Rattle.octets.specs.Octets.{word};
-ghost use Rattle.links.specs.Links.{CountsFit};
+ghost use Rattle.std.specs.Prelude.{◌≡◌, ◌+◌, ◌≤◌, ◌++◌, length, flat_map};
+ghost use Rattle.octets.specs.Octets.{le, word};
+ghost use Rattle.links.specs.Links.{CountsFit, opened};
 ghost use Rattle.answers.specs.Answers.{followed};
 ghost use Rattle.commands.specs.Outcome.{Answers, GivesAny, done, done_handle};
 ghost use Rattle.commands.specs.Refused.{YieldsAny};
@@ -9,6 +9,7 @@ ghost use Rattle.commands.specs.Put.{put_links, put_settings};
 ghost use Rattle.commands.specs.Checks.{data_length_valid};
 ghost use Rattle.commands.specs.Link.{new_octets, new_time, data_length_change, set_data_length};
 ghost use Rattle.commands.specs.Link.{read_suggested_data_length, write_suggested_data_length};
+ghost use Rattle.link.specs.Link.{data_length_asked};
 
 use answers::Answer;
 use commands::{Answered, ErrorCode};
@@ -46,14 +47,40 @@ impl DataLength {
     }
 }
 
+// The parameters of LE Data Length Change (section 7.7.65.7): the greatest are those of receiving too.
+fn change_params(handle: u16, sent: DataLength, received: DataLength) -> [[u8; 2]; 5]
+    ensures { flat_map (λ x. x) result
+        ≡ le 2 handle ++ le 2 sent.octets ++ le 2 sent.time ++ le 2 received.octets ++ le 2 received.time }
+{
+    [
+        handle,
+        sent.octets,
+        sent.time,
+        received.octets,
+        received.time,
+    ]
+    .map(u16::to_le_bytes)
+}
+
+// The profile's greatest.
+fn greatest(profile: ControllerRow) -> DataLength
+    ensures { (result.octets ≡ profile.max_tx_octets) × (result.time ≡ profile.max_tx_time) }
+{
+    DataLength {
+        octets: profile.max_tx_octets,
+        time: profile.max_tx_time,
+    }
+}
+
 // What the host asks for, cut to the profile's greatest.
 fn new_data_length(profile: ControllerRow, p: &[u8; 6]) -> DataLength
     ensures { (result.octets ≡ new_octets profile p.now) × (result.time ≡ new_time profile p.now) }
 {
     let asked = DataLength::read(p, 2);
+    let greatest = greatest(profile);
     DataLength {
-        octets: asked.octets.min(profile.max_tx_octets),
-        time: asked.time.min(profile.max_tx_time),
+        octets: asked.octets.min(greatest.octets),
+        time: asked.time.min(greatest.time),
     }
 }
 
@@ -71,24 +98,19 @@ fn data_length_change(profile: ControllerRow, masks: Masks, c: Connection, p: &[
     if new == old {
         return answer;
     }
-    let [low, high] = handle.to_le_bytes();
-    let [octets_low, octets_high] = new.octets.to_le_bytes();
-    let [time_low, time_high] = new.time.to_le_bytes();
-    let [max_octets_low, max_octets_high] = profile.max_tx_octets.to_le_bytes();
-    let [max_time_low, max_time_high] = profile.max_tx_time.to_le_bytes();
-    let params = [
-        low,
-        high,
-        octets_low,
-        octets_high,
-        time_low,
-        time_high,
-        max_octets_low,
-        max_octets_high,
-        max_time_low,
-        max_time_high,
-    ];
-    commands::followed_by_le(answer, masks, DATA_LENGTH_CHANGE, &params)
+    let params = change_params(handle, new, greatest(profile));
+    commands::followed_by_le(answer, masks, DATA_LENGTH_CHANGE, params.as_flattened())
+}
+
+// The link that Set Data Length asks for, where it may be changed.
+fn asked(links: Links, p: &[u8; 6]) -> Result<Connection, ErrorCode>
+    requires { links.count ≤ 16 }
+    ensures { result ≡ data_length_asked p.now (opened links) }
+{
+    if !DataLength::read(p, 2).is_valid() {
+        return Err(ErrorCode::InvalidParameters);
+    }
+    links::connection_of(links, octets::word_at(p, 0)).ok_or(ErrorCode::UnknownConnection)
 }
 
 // LE Set Data Length (section 7.8.33). With Set PHY it shares the search for the link alone: each refuses in its own form.
@@ -98,16 +120,15 @@ pub fn set_data_length(s: Controller, profile: ControllerRow, p: &[u8; 6]) -> An
     ensures { GivesAny (set_data_length profile p.now) s (put_links result.part s) result.answer }
 {
     let handle = octets::word_at(p, 0);
-    if !DataLength::read(p, 2).is_valid() {
-        return Answered::done_handle(s.links, Err(ErrorCode::InvalidParameters), handle);
-    }
-    let Some(c) = links::connection_of(s.links, handle) else {
-        return Answered::done_handle(s.links, Err(ErrorCode::UnknownConnection), handle);
-    };
-    let new = new_data_length(profile, p);
-    Answered {
-        part: links::set_data_length(s.links, handle, new.octets, new.time),
-        answer: data_length_change(profile, s.masks, c, p),
+    match asked(s.links, p) {
+        Ok(c) => {
+            let new = new_data_length(profile, p);
+            Answered {
+                part: links::set_data_length(s.links, handle, new.octets, new.time),
+                answer: data_length_change(profile, s.masks, c, p),
+            }
+        }
+        Err(code) => Answered::done_handle(s.links, Err(code), handle),
     }
 }
 
@@ -116,10 +137,8 @@ pub fn set_data_length(s: Controller, profile: ControllerRow, p: &[u8; 6]) -> An
 pub fn read_suggested_data_length(settings: Settings) -> Answer
     ensures { Answers (read_suggested_data_length settings) result }
 {
-    let [octets, time] = settings.suggested_data_length;
-    let [octets_low, octets_high] = octets.to_le_bytes();
-    let [time_low, time_high] = time.to_le_bytes();
-    answers::complete(&[SUCCESS, octets_low, octets_high, time_low, time_high])
+    let words = settings.suggested_data_length.map(u16::to_le_bytes);
+    commands::succeeded(words.as_flattened())
 }
 
 // LE Write Suggested Default Data Length (section 7.8.35).

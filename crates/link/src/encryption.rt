@@ -11,8 +11,7 @@ fn reversed(p: &[u8], at: usize) -> [u8; 16]
     requires { at + 16 ≤ length p.now }
     ensures { result ≡ reverse (take 16 (drop at p.now)) }
 {
-    let mut octets = [0; 16];
-    octets.copy_from_slice(&p[at..at + 16]);
+    let mut octets = octets::octets_at(p, at);
     octets.reverse();
     octets
 }

@@ -5,9 +5,9 @@ ghost use Rattle.commands.specs.Outcome.{Answers, GivesAny};
 ghost use Rattle.commands.specs.Put.{put_links};
 ghost use Rattle.commands.specs.Link.{parameter_request_reply, parameter_request_negative_reply};
 
-use crate::update;
+use crate::update::{apply, asked};
 use answers::Answer;
-use commands::{Answered, ErrorCode};
+use commands::Answered;
 use hci::status::{SUCCESS, UNKNOWN_CONNECTION};
 use links::Links;
 use state::Controller;
@@ -19,13 +19,10 @@ pub fn parameter_request_reply(s: Controller, p: &[u8; 14]) -> Answered<Links>
     ensures { GivesAny (parameter_request_reply p.now) s (put_links result.part s) result.answer }
 {
     let handle = octets::word_at(p, 0);
-    if !update::update_valid(p) {
-        return Answered::done_handle(s.links, Err(ErrorCode::InvalidParameters), handle);
+    match asked(s.links, p) {
+        Ok(timing) => apply(s, handle, timing, answers::done_handle(SUCCESS, handle)),
+        Err(code) => Answered::done_handle(s.links, Err(code), handle),
     }
-    if !links::has(s.links, handle) {
-        return Answered::done_handle(s.links, Err(ErrorCode::UnknownConnection), handle);
-    }
-    update::apply_params(s.links, s.masks, p, answers::done_handle(SUCCESS, handle))
 }
 
 // LE Remote Connection Parameter Request Negative Reply (section 7.8.32).

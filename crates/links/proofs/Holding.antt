@@ -50,9 +50,6 @@ module _ (s : Links) (places size : ℕ) (few : s.count ≤ 16) (fits : s.waitin
         let some : 0 < length (waiting_of s) = omega (arith, eqb-false s.waiting_count 0 u) in
         rw (none_linked (waiting_of s) some, and-false, and-false, u))))
 
-    pub hold_same_handles : distinct handle_of (opened s) ≡ false → false ≡ links_hold s places size
-    hold_same_handles e = sym (rest ∙ rw e)
-
     pub hold_none_waiting : distinct handle_of (opened s) ≡ true → s.waiting_count ≡ 0
         → true ≡ links_hold s places size
     unfolding all distinct_by

@@ -37,4 +37,7 @@ pub record Changes (h : ℕ) (f : Connection → Connection) (s r : Links) : Typ
 -- r is s with the connection of handle h changed to one that R relates it to: by any function f, where R relates a connection to
 -- no other than f gives
 abbrev pub ChangesBy : (Connection → Connection → Type 0) → ℕ → Links → Links → Type 0
-ChangesBy R h s r = (f : Connection → Connection) → ((c d : Connection) → R c d → d ≡ f c) → Changes h f s r
+ChangesBy R h s r =
+    ((f : Connection → Connection) → ((c d : Connection) → R c d → d ≡ f c)
+    → opened r ≡ update_first (has_handle h) f (opened s))
+    × ListsOf r (opened r) (waiting_of s) s.in_flight

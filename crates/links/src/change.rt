@@ -7,7 +7,7 @@ ghost use Rattle.links.specs.Change.{ListsOf, KeptBy, other_than, away_from};
 
 use crate::{Connection, Links, Timing};
 
-// Moves the items that pass to the front, in order, and gives how many they are.
+// Moves the items that pass to the front, in order, and gives how many they are. By index, since it reads and writes one array.
 fn keep_passing<T: Copy, F: Fn(&T) -> bool>(items: &mut [T], passes: F) -> usize
     requires { F.IsAlwaysCallable passes }
     ensures { KeptBy (FnReturnsAt F.Fn passes) items.old result items.new }
@@ -71,6 +71,7 @@ fn push_connection(mut links: Links, c: Connection) -> Links
 }
 
 // The links with the handle opened last. A link with the handle ends first, and its queue with it.
+#[tactic(auto, using(crate::proofs::Changing::opened_view))]
 pub fn open_connection(links: Links, handle: u16, timing: Timing) -> Links
     requires { CountsFit links × (can_open handle (opened links) ≡ true) }
     ensures viewed { (size : ℕ) (pool : List ℕ) → view result size pool
@@ -99,6 +100,7 @@ pub fn open_connection(links: Links, handle: u16, timing: Timing) -> Links
 }
 
 // Packets of the air are reported or gone with their link: that many are in flight no more, never below zero.
+#[tactic(auto, unfolding(crate::specs::Links::settled))]
 pub fn settle(mut links: Links, count: u16) -> Links
     requires { CountsFit links }
     ensures viewed { (size : ℕ) (pool : List ℕ) → view result size pool ≡ settled count (view links size pool) }

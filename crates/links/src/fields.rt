@@ -1,5 +1,7 @@
 // Changing one connection: each function sets some fields of the connection of a handle. An unknown handle changes nothing.
 // What they share is `change`; a setter each stays, since each is its own promise to the commands.
+#![tactic(auto, using(crate::proofs::Changing::changed_view))]
+
 ghost use Rattle.links.specs.Links.{CountsFit};
 ghost use Rattle.links.specs.Change.{Changes, ChangesBy};
 ghost use Rattle.links.specs.Fields.{with_parameters, with_data_length, with_phys, with_terminating};

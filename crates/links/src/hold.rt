@@ -7,10 +7,12 @@ ghost use Rattle.links.specs.declared.Connection.{Connection};
 ghost use Rattle.links.specs.Holding.{links_hold, handle_of, place_of};
 ghost use Rattle.links.specs.Gather.{Gathers, gathered, times_in, itself, packet_holds};
 
-use crate::{Connection, Links, Waiting};
+use crate::{Connection, Links, Places, Waiting};
 
 // The handles of the first n connections. At each later index stands a number that is no handle, another at each. The array and
-// n, not a slice of it: what is gathered (specs/Gather) is told of all sixteen places.
+// n, not a slice of it: what is gathered (specs/Gather) is told of all sixteen places. By index, since each handle goes to the
+// place of its connection.
+#[tactic(auto, unfolding(lists::specs::Lists::all), using(crate::proofs::Gather::gather_start))]
 pub fn handles_of(connections: &[Connection; 16], n: usize) -> [u32; 16]
     requires { n ≤ 16 }
     ensures { Gathers n connections.now result }
@@ -26,6 +28,7 @@ pub fn handles_of(connections: &[Connection; 16], n: usize) -> [u32; 16]
 }
 
 // Whether the number stands among the sixteen.
+#[tactic(auto, unfolding(lists::specs::Lists::any))]
 pub fn stands(numbers: &[u32; 16], x: u32) -> bool
     ensures { result ≡ any (keyed itself x) numbers.now }
 {
@@ -37,6 +40,7 @@ pub fn stands(numbers: &[u32; 16], x: u32) -> bool
 }
 
 // How many times the number stands among the sixteen.
+#[tactic(auto, unfolding(lists::specs::Lists::keep))]
 fn times(numbers: &[u32; 16], x: u32) -> u32
     ensures { result ≡ times_in x numbers.now }
 {
@@ -55,6 +59,7 @@ fn lowest_octets_differ(handles: &[u32; 16], n: usize) -> bool
 {
     let mut met = [false; 256];
     for x in &handles[..n] {
+        // By `as`: `usize` has no `From` of a u32.
         let low = (*x % 256) as usize;
         if met[low] {
             return false;
@@ -73,24 +78,25 @@ fn handles_differ(handles: &[u32; 16], n: usize) -> bool
 }
 
 // Whether a waiting packet has a place of the pool, a length that the place holds, and a handle among those gathered.
-fn packet_holds(w: Waiting, handles: &[u32; 16], places: usize, size: usize) -> bool
-    ensures { (k : ℕ) (cs : List Connection) → handles.now ≡ gathered k cs → result ≡ packet_holds places size (take k cs) w }
+fn packet_holds(w: Waiting, handles: &[u32; 16], places: Places) -> bool
+    ensures { (k : ℕ) (cs : List Connection) → handles.now ≡ gathered k cs
+        → result ≡ packet_holds places.count places.size (take k cs) w }
 {
-    usize::from(w.place) < places
+    usize::from(w.place) < places.count
         && w.len >= 5
-        && usize::from(w.len) <= size
+        && usize::from(w.len) <= places.size
         && stands(handles, u32::from(w.handle))
 }
 
 // Whether the waiting packets hold, and no two own one place. The places that have been met are marked.
-fn packets_hold(waiting: &[Waiting], handles: &[u32; 16], places: usize, size: usize) -> bool
+fn packets_hold(waiting: &[Waiting], handles: &[u32; 16], places: Places) -> bool
     ensures { (k : ℕ) (cs : List Connection) → handles.now ≡ gathered k cs
-        → result ≡ (distinct place_of waiting.now && all (packet_holds places size (take k cs)) waiting.now) }
+        → result ≡ (distinct place_of waiting.now && all (packet_holds places.count places.size (take k cs)) waiting.now) }
 {
     let mut met = [false; 256];
     for w in waiting {
         let place = usize::from(w.place);
-        if met[place] || !packet_holds(*w, handles, places, size) {
+        if met[place] || !packet_holds(*w, handles, places) {
             return false;
         }
         met[place] = true;
@@ -98,14 +104,15 @@ fn packets_hold(waiting: &[Waiting], handles: &[u32; 16], places: usize, size: u
     true
 }
 
-// Question 3 about the links, with a pool of that many places of that size.
-pub fn links_hold(links: Links, places: usize, size: usize) -> bool
-    ensures { result ≡ links_hold links places size }
+// Question 3 about the links, with a pool that has these places.
+#[tactic(auto, unfolding(crate::specs::Holding::links_hold), using(crate::proofs::Holding::hold_packets))]
+pub fn links_hold(links: Links, places: Places) -> bool
+    ensures { result ≡ links_hold links places.count places.size }
 {
     if links.count > 16 || links.waiting_count > 32 {
         return false;
     }
-    if links.waiting_count + usize::from(links.in_flight) > places {
+    if links.waiting_count + usize::from(links.in_flight) > places.count {
         return false;
     }
     if links.count == 0 {
@@ -116,5 +123,5 @@ pub fn links_hold(links: Links, places: usize, size: usize) -> bool
         return false;
     }
     let waiting = links.waiting();
-    waiting.is_empty() || packets_hold(waiting, &handles, places, size)
+    waiting.is_empty() || packets_hold(waiting, &handles, places)
 }

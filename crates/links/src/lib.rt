@@ -1,6 +1,8 @@
 // The controller's links: sixteen connection places beside their count, one queue of the packets that wait in all links, and
 // the number of packets in flight. The packets' octets lie in a pool that the caller lends (crate `transmit`). For the
-// controller's commands, notices and question 3. Contracts cite `specs/`.
+// controller's commands, notices and question 3. Contracts cite `specs/`. C hands the links in, any octets as a state: so they
+// are arrays beside counts, PHYs and a yes or no are octets, and that the counts fit (`CountsFit`) stands in contracts and not in
+// a type; question 3 finds it out.
 #![tactic(auto)]
 
 ghost use Rattle.std.specs.Prelude.{◌≡◌, ◌≤◌, []};
@@ -51,6 +53,14 @@ pub struct Waiting {
     pub handle: u16,
     pub len: u16,
     pub place: u8,
+}
+
+// The places of a pool: how many they are, and how many octets each has. No function gives a place's first octet: it would ask
+// that the product fits, which follows from the room that each caller has already.
+#[derive(Clone, Copy)]
+pub struct Places {
+    pub count: usize,
+    pub size: usize,
 }
 
 #[repr(C)]

@@ -15,6 +15,7 @@ pub fn find_connection(links: Links, handle: u16) -> Option<usize>
 }
 
 // Whether a connection has this handle.
+#[tactic(auto, using(lists::proofs::Search::position_is_some))]
 pub fn has(links: Links, handle: u16) -> bool
     requires { links.count ≤ 16 }
     ensures { result ≡ has_connection handle (opened links) }
@@ -23,6 +24,7 @@ pub fn has(links: Links, handle: u16) -> bool
 }
 
 // The connection with this handle.
+#[tactic(auto, using(crate::proofs::Looking::connection_nothing, crate::proofs::Looking::connection_found))]
 pub fn connection_of(links: Links, handle: u16) -> Option<Connection>
     requires { links.count ≤ 16 }
     ensures { result ≡ connection_of handle (opened links) }
@@ -57,7 +59,8 @@ pub fn free_handle(links: Links) -> u16
     0x0EFF
 }
 
-// Question 6: whether the handle is present, or one of the sixteen places is free.
+// Question 6: whether the handle is present, or one of the sixteen places is free. Notices that open a link ask for it in their
+// contracts: it is a fact of the links and the handle together, so neither's type can carry it.
 pub fn can_open(links: Links, handle: u16) -> bool
     requires { links.count ≤ 16 }
     ensures { result ≡ can_open handle (opened links) }

@@ -26,7 +26,7 @@ pub gives_links : {f : Model → Outcome} {k : ControllerRow} {s u : Controller}
     → f (view s size pool) ≡ outcome expected (with_links (g (view u size pool).links) (view u size pool)))
     → StateHolds u k → Gives f k s (put_links r u) a
 gives_links {u = u} {expected = expected} g viewed part answers same held =
-    gives_answer (answers.same, answers.shaped)
+    gives_answer answers
     (λ size pool. same size pool ∙ ap (λ (y : links.Model). outcome expected (with_links y (view u size pool)))
     (sym (viewed size pool)))
     (holds_links held part)

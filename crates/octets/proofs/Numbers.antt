@@ -1,12 +1,12 @@
 -- Little-endian numbers of any width: what is written is read back, and a number is read where it stands. For every
 -- crate that reads a field of a packet.
-use mathlib.Core.Path.{◌≡◌, refl, ap, ap₂, ◌∙◌}
+use mathlib.Core.Path.{◌≡◌, refl, sym, ap, ap₂, ◌∙◌}
 use mathlib.Core.List.{List, [], ◌∷◌, ◌++◌}
 use Prim.Native.Nat.{ℕ, zero, suc, ◌+◌, ◌*◌, ◌/◌, ◌%◌, ◌^◌, ◌≤◌, ◌<◌}
-use native.Mathlib.Nat.{pow-succ', zero-add, suc-add}
+use native.Mathlib.Nat.{pow-succ', zero-add, add-zero, suc-add}
 use native.Mathlib.Omega.{arith}
-use lib.ListN.{length, take, drop}
-use lib.Seq.{drop-cons}
+use lib.ListN.{length, take, drop, length-drop, take-append-drop}
+use lib.Seq.{drop-cons, length-take-le}
 use Rattle.octets.specs.Octets.{octet, le, number_at}
 
 -- one octet in front
@@ -34,6 +34,23 @@ number_front zero p q i h = refl
 number_front (suc zero) p q i h = octet_front p q i (omega arith)
 number_front (suc (suc w)) p q i h =
     ap₂ (λ (a b : ℕ). a + 256 * b) (octet_front p q i (omega arith)) (number_front (suc w) p q (suc i) (omega arith))
+
+-- octets that are taken out are read as the number that stands there
+pub number_taken : (w : ℕ) (p : List ℕ) (i : ℕ) (o : List ℕ) → o ≡ take w (drop i p) → i + w ≤ length p
+    → number_at w o 0 ≡ number_at w p i
+number_taken w p i o e h =
+    let front : List ℕ = take i p in
+    let rest : List ℕ = drop i p in
+    let long : length front ≡ i = length-take-le i p (omega arith) in
+    let there : number_at w p i ≡ number_at w rest 0 =
+    rw (long, add-zero, take-append-drop) at (number_after w front rest 0) in
+    let whole : length (take w rest) ≡ w = length-take-le w rest (simp length-drop (omega arith)) in
+    let here : number_at w rest 0 ≡ number_at w (take w rest) 0 =
+    rw take-append-drop at (number_front w (take w rest) (drop w rest) 0 (omega (arith, whole))) in
+    rw e (sym (there ∙ here))
+
+pub word_taken : (p : List ℕ) (i : ℕ) (o : List ℕ) → o ≡ take 2 (drop i p) → i + 2 ≤ length p → number_at 2 o 0 ≡ number_at 2 p i
+word_taken = number_taken 2
 
 -- what is written is read back
 pub number_le : (w n : ℕ) (q : List ℕ) → n < 256 ^ w → number_at w (le w n ++ q) 0 ≡ n

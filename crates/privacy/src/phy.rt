@@ -6,9 +6,7 @@ ghost use Rattle.commands.specs.Outcome.{Answers, GivesAny, done};
 ghost use Rattle.commands.specs.Refused.{YieldsAny};
 ghost use Rattle.commands.specs.Privacy.{read_maximum_data_length, read_phy, set_default_phy, set_phy};
 
-use crate::preference::{
-    RECEIVING, SENDING, phy_preference_empty, phy_preference_unsupported, pick_phy, preferred,
-};
+use crate::preference::{Preference, pick_phy};
 use answers::Answer;
 use commands::{Answered, ErrorCode};
 use hci::status::{SUCCESS, UNKNOWN_CONNECTION};
@@ -22,19 +20,9 @@ use state::{Controller, Settings};
 pub fn read_maximum_data_length(profile: ControllerRow) -> Answer
     ensures { Answers (read_maximum_data_length profile) result }
 {
-    let [octets_low, octets_high] = profile.max_tx_octets.to_le_bytes();
-    let [time_low, time_high] = profile.max_tx_time.to_le_bytes();
-    answers::complete(&[
-        SUCCESS,
-        octets_low,
-        octets_high,
-        time_low,
-        time_high,
-        octets_low,
-        octets_high,
-        time_low,
-        time_high,
-    ])
+    let (octets, time) = (profile.max_tx_octets, profile.max_tx_time);
+    let words = [octets, time, octets, time].map(u16::to_le_bytes);
+    commands::succeeded(words.as_flattened())
 }
 
 // LE Read PHY (section 7.8.47). One function with the other reads of a link (`known`, `link`) would be handed both answers, and
@@ -45,10 +33,9 @@ pub fn read_phy(p: &[u8; 2], links: Links) -> Answer
     ensures { Answers (read_phy p.now (opened links)) result }
 {
     let handle = octets::word_at(p, 0);
-    let [low, high] = handle.to_le_bytes();
     match links::connection_of(links, handle) {
-        Some(c) => answers::complete(&[SUCCESS, low, high, c.tx_phy, c.rx_phy]),
-        None => answers::complete(&[UNKNOWN_CONNECTION, low, high, 0, 0]),
+        Some(c) => commands::about(SUCCESS, handle, &[c.tx_phy, c.rx_phy]),
+        None => commands::about(UNKNOWN_CONNECTION, handle, &[0; 2]),
     }
 }
 
@@ -63,17 +50,18 @@ pub fn set_default_phy(
 {
     let mut settings = s.settings;
     let [all, tx, rx] = *p;
-    if phy_preference_empty(all, tx, rx) {
+    let preference = Preference { all, tx, rx };
+    if preference.is_empty() {
         return Err(ErrorCode::InvalidParameters);
     }
-    if phy_preference_unsupported(profile, all, tx, rx) {
+    if preference.is_unsupported(profile) {
         return Err(ErrorCode::UnsupportedFeature);
     }
     settings.default_phy = [all, tx, rx];
     Ok(settings)
 }
 
-// LE Set PHY (section 7.8.49): the handle alone is tested.
+// LE Set PHY (section 7.8.49): the handle alone is tested. It is refused in one place: a `Result` inside for `?` would be longer.
 #[tactic(auto, unfolding(commands::specs::Privacy::set_phy))]
 pub fn set_phy(s: Controller, profile: ControllerRow, p: &[u8; 7]) -> Answered<Links>
     requires { CountsFit s.links }
@@ -83,9 +71,13 @@ pub fn set_phy(s: Controller, profile: ControllerRow, p: &[u8; 7]) -> Answered<L
     let Some(c) = links::connection_of(s.links, handle) else {
         return Answered::status(s.links, Err(ErrorCode::UnknownConnection));
     };
-    let all = p[2];
-    let tx = pick_phy(profile, preferred(all, SENDING, p[3]), c.tx_phy);
-    let rx = pick_phy(profile, preferred(all, RECEIVING, p[4]), c.rx_phy);
+    let preference = Preference {
+        all: p[2],
+        tx: p[3],
+        rx: p[4],
+    };
+    let tx = pick_phy(profile, preference.sending(), c.tx_phy);
+    let rx = pick_phy(profile, preference.receiving(), c.rx_phy);
     let [low, high] = handle.to_le_bytes();
     let params = [SUCCESS, low, high, tx, rx];
     let status = answers::status(SUCCESS);

@@ -13,7 +13,6 @@ ghost use Rattle.commands.specs.Privacy.{locked as is_locked};
 use answers::Answer;
 use commands::ErrorCode;
 use filters::ResolvingList;
-use hci::status::SUCCESS;
 use profile::ControllerRow;
 use state::Controller;
 
@@ -94,7 +93,7 @@ pub fn clear_resolving_list(s: Controller) -> Result<ResolvingList, ErrorCode>
 pub fn read_resolving_list_size(profile: ControllerRow) -> Answer
     ensures { Answers (read_resolving_list_size profile) result }
 {
-    answers::complete(&[SUCCESS, profile.resolving_list_size])
+    commands::succeeded(&[profile.resolving_list_size])
 }
 
 // LE Set Privacy Mode (section 7.8.77): network privacy 0, device privacy 1. It shares its two refusals with the removal, but

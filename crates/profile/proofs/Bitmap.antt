@@ -1,4 +1,4 @@
--- The bit map of the rows, for callers: its length and which bits it has.
+-- The bit map of the rows, for callers: which bits it has.
 use Prim.Native.Nat.{ℕ, ◌/◌, ◌≤◌, ◌<◌}
 use native.Mathlib.Omega.{arith}
 use native.Mathlib.Nat.{zero-div, zero-mod}
@@ -13,21 +13,10 @@ use Rattle.hci.specs.Bits.{map_bit}
 use Rattle.hci.proofs.Bit.{bit_set}
 use Rattle.profile.specs.Profile.{with_row, row_bits, row_bitmap, lists_bit}
 
--- ---- its length
+-- a row leaves its length
 length_row : (map : List ℕ) (answer bit : ℕ) → length (with_row map answer bit) ≡ length map
 length_row map answer bit = cases (not (eqb answer 2) && ltb bit 512) (λ e. rw e (simp length-set)) (λ e. rw e)
 
-length_rows : (map answers bits : List ℕ) → length (row_bits map answers bits) ≡ length map
-unfolding row_bits
-length_rows map [] bits = refl
-length_rows map (answer ∷ answers) [] = refl
-length_rows map (answer ∷ answers) (bit ∷ bits) =
-    length_rows (with_row map answer bit) answers bits ∙ length_row map answer bit
-
-pub length_bitmap : (answers bits : List ℕ) → length (row_bitmap answers bits) ≡ 64
-length_bitmap answers bits = length_rows (replicate 64 0) answers bits
-
--- ---- its bits
 -- a row sets its bit if it is not unknown, and no other
 row_bit : (map : List ℕ) (answer bit b : ℕ) → length map ≡ 64 → b < 512
     → map_bit (with_row map answer bit) b ≡ cond (not (eqb answer 2) && eqb b bit) 1 (map_bit map b)

@@ -19,7 +19,7 @@ module _ (opcodes answers : List ℕ) (op : ℕ) (fit : answers_fit opcodes answ
   no_row e = get_or_past answers _ 3 (omega (arith, same_answers, position_none _ opcodes (sym e)))
 
   module _ (i : ℕ) (found : Some i ≡ position (λ x. x == op) opcodes) where
-    pub has_answer : i < length answers
+    has_answer : i < length answers
     has_answer = omega (arith, same_answers, (position_some _ opcodes i (sym found)).1)
 
     pub first_row : (row_answer opcodes answers op ≡ get_or answers i 0) × (get_or answers i 0 ≤ 2)

@@ -47,6 +47,7 @@ impl<'a> Rows<'a> {
         ensures { answer_number result ≡ row_answer self.now.opcodes.now self.now.answers.now op }
     {
         let i = hci::first_opcode(self.opcodes, op)?;
+        // By a match: `try_from` would want a branch for the octets above 2, which no run takes.
         Some(match self.answers[i] {
             0 => Answering::Modeled,
             1 => Answering::Unmodeled,
@@ -62,6 +63,7 @@ pub fn row_bitmap(answers: &[u8], bits: &[u16]) -> [u8; 64]
 {
     let mut map = [0u8; 64];
     for (answer, bit) in answers.iter().zip(bits) {
+        // 2 is the answer of an unknown command.
         if *answer != 2 {
             set_row_bit(&mut map, *bit);
         }

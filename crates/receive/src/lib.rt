@@ -128,13 +128,12 @@ pub fn data(s: Controller, profile: ControllerRow, pool: &mut [u8], packet: &[u8
     if !has_link(header, links) || header.len > profile.acl_len {
         return dropped(s);
     }
-    let places = usize::from(profile.acl_count);
-    if links::buffers_in_use(links) >= places {
+    let places = state::places(profile);
+    if links::buffers_in_use(links) >= places.count {
         return dropped(s);
     }
-    let size = state::place_size(profile);
     let n = usize::from(header.len) + 5;
-    let waiting = transmit::enqueue(links, pool, size, places, header.handle, packet, n);
+    let waiting = transmit::enqueue(links, pool, places, header.handle, packet, n);
     let mut after = links;
     after.waiting = waiting;
     after.waiting_count = links.waiting_count + 1;

@@ -10,7 +10,7 @@ use lib.Dec.{eqb}
 use lib.ListN.{length, take, length-map, length-take, length-append}
 use borrow.Author.Tests.{eq-eqb, ne_eqb, eqb-true, eqb-false}
 use borrow.Table.Steps.{cases}
-use Rattle.octets.proofs.Writing.{put_long, put_front, put_front_long}
+use Rattle.octets.proofs.Writing.{put_front, put_front_long}
 use Rattle.h4.specs.Framing.{packets}
 use Rattle.h4.proofs.Reading.{packet_size}
 use Rattle.h4.proofs.Splitting.{packets_none, packets_front, by_packets, none_there}

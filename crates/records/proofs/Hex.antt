@@ -1,6 +1,7 @@
 -- Packets in a line: the value of a hex digit, the loop that reads pairs of them into a buffer, and what a field that is a
 -- packet, or is none, says of the record. For the proofs of the reader.
-use Prim.Native.Nat.{ℕ, suc, ◌+◌, ◌-◌, ◌*◌, ◌/◌, ◌%◌, ◌≤◌, ◌<◌}
+use Prim.Native.Nat.{ℕ, zero, suc, ◌+◌, ◌-◌, ◌*◌, ◌/◌, ◌%◌, ◌≤◌, ◌<◌}
+use native.Mathlib.Nat.{add-zero, le_of_suc-le-suc}
 use native.Mathlib.Omega.{arith}
 use native.Mathlib.Numerals.{add-one}
 use mathlib.Core.Bool.{true, false, ◌&&◌, and-eq-true_iff, and-false}
@@ -8,10 +9,11 @@ use mathlib.Core.Path.{◌≡◌, refl, sym, ap, ◌∙◌}
 use mathlib.Core.List.{List, [], ◌∷◌, ◌++◌, append-nil}
 use lib.Dec.{leb, eqb}
 use lib.ListN.{length, take, drop, get_or, set, replicate, length-set}
-use lib.Seq.{drop-cons, drop-length, take-suc-set, append_snoc}
+use lib.Seq.{drop-cons, drop-drop, drop-length, get_or-take, get_or-drop, take-suc-set, append_snoc}
 use borrow.Author.Tests.{le-leb, lt-leb, leb-true, eq-eqb, ne_eqb}
 use borrow.Table.Steps.{cases}
 use Rattle.std.specs.Prelude.{Some, None}
+use Rattle.std.specs.Simd.{first_chunks}
 use Rattle.std.proofs.lemmas.Option.{none-some, cond_some}
 use Rattle.lists.specs.Lists.{any, all, same_list}
 use Rattle.calls.specs.Calls.{on_packet}
@@ -73,6 +75,21 @@ two_ahead f i h =
     let two : i + 2 ≡ suc (suc i) = omega arith in
     drop-cons f i 0 (omega arith)
     ∙ ap (λ (l : List ℕ). get_or f i 0 ∷ l) (rw (two, add-one i) (drop-cons f (suc i) 0 (omega arith)))
+
+-- the pair that the library cuts out at j, and its digits
+pair_at : (m j : ℕ) (f : List ℕ) → j < m → get_or (first_chunks 2 m f) j [] ≡ take 2 (drop (2 * j) f)
+pair_at zero j f h = absurd (omega arith)
+pair_at (suc m) zero f h = refl
+pair_at (suc m) (suc j) f h =
+    let next : 2 * suc j ≡ 2 + 2 * j = omega arith in
+    pair_at m j (drop 2 f) (le_of_suc-le-suc h) ∙ rw (drop-drop, next)
+
+module _ (f : List ℕ) (j : ℕ) {pairs : List (List ℕ)} {m : ℕ} (e : pairs ≡ first_chunks 2 m f) (h : j < m) where
+  pub pair_high : get_or (get_or pairs j []) 0 0 ≡ get_or f (2 * j) 0
+  pair_high = rw (e, pair_at m j f h, get_or-take 2 (drop (2 * j) f) 0 0 (omega arith), get_or-drop, add-zero)
+
+  pub pair_low : get_or (get_or pairs j []) 1 0 ≡ get_or f (2 * j + 1) 0
+  pair_low = rw (e, pair_at m j f h, get_or-take 2 (drop (2 * j) f) 1 0 (omega arith), get_or-drop)
 
 -- the first j pairs of a field are digits, and their octets stand at the front of the buffer
 pub record Pairs (f before packet : List ℕ) (j : ℕ) : Type 0 where
@@ -140,10 +157,10 @@ packet_yes f octets y e =
 
 -- how the loop finds out
 module _ (f : List ℕ) where
-  pub packet_odd : (length f ≡ 2 * (length f / 2) → ⊥) → no_record ≡ read_fields ((80 ∷ []) ∷ fields f)
+  pub packet_odd : (length f % 2 ≡ 0 → ⊥) → no_record ≡ read_fields ((80 ∷ []) ∷ fields f)
   unfolding is_packet
   packet_odd h =
-      packet_not f (rw (ne_eqb (length f % 2) 0 (λ z. h (omega arith)), and-false (all is_hex_digit f)))
+      packet_not f (rw (ne_eqb (length f % 2) 0 h, and-false (all is_hex_digit f)))
 
   pub packet_long : 1024 < length f / 2 → no_record ≡ read_fields ((80 ∷ []) ∷ fields f)
   unfolding is_packet
@@ -154,12 +171,13 @@ module _ (f : List ℕ) where
   unfolding is_packet
   packet_digit h = packet_not f (rw h)
 
-  pub packet_read : {before packet : List ℕ} {j : ℕ} → Pairs f before packet j → length f ≡ 2 * (length f / 2)
+  pub packet_read : {before packet : List ℕ} {j : ℕ} → Pairs f before packet j → length f % 2 ≡ 0
       → length f / 2 ≤ 1024
       → j ≡ length f / 2 → calls (on_packet (replicate 6 0) 0 (take (length f / 2) packet)) ≡ read_fields ((80 ∷ []) ∷ fields f)
   unfolding is_packet octets_of all
   packet_read {before} {packet} {j} c e h s =
-      let d : drop (2 * j) f ≡ [] = rw (s, sym e, drop-length) in
+      let whole : 2 * (length f / 2) ≡ length f = omega arith in
+      let d : drop (2 * j) f ≡ [] = rw (s, whole, drop-length) in
       packet_yes f (take (length f / 2) packet)
-      (rw (c.digits, d, eq-eqb (length f % 2) 0 (omega arith), le-leb (length f) 2048 (omega arith)))
+      (rw (c.digits, d, eq-eqb (length f % 2) 0 e, le-leb (length f) 2048 (omega arith)))
       (c.octets ∙ rw (d, s) (append-nil (take (length f / 2) packet)))

@@ -4,32 +4,17 @@ use mathlib.Core.List.{List, [], ◌∷◌, ◌++◌, map, flatten, append_assoc
 use Prim.Native.Nat.{ℕ, zero, suc, ◌+◌, ◌*◌, ◌/◌, ◌%◌, ◌≤◌, ◌<◌}
 use native.Mathlib.Numerals.{add-one}
 use native.Mathlib.Omega.{arith}
-use lib.ListN.{length, take, drop, get_or, length-append, length-drop, take-append-drop}
+use lib.ListN.{length, take, drop, get_or, length-append, length-drop}
 use lib.Seq.{take_all, length-take-le}
 use Rattle.std.specs.Prelude.{Option, Some, None, Result, Ok, Err, MatchOption}
 use Rattle.std.specs.List.{IsSplitAt}
 use Rattle.std.specs.Result.{result_ok}
 use Rattle.std.proofs.lemmas.Option.{none-some, same_Some}
-use Rattle.octets.specs.Octets.{Put}
-use Rattle.octets.proofs.Writing.{splice_front, put_then, put_front}
-use Rattle.h4.specs.declared.StreamError.{StreamError}
+use Rattle.h4.specs.declared.UndefinedIndicator.{UndefinedIndicator}
 use Rattle.h4.specs.Framing.{packet_length, whole, packets}
 use Rattle.h4.proofs.Reading.{packet_size, whole_packet, whole_short, whole_lost}
 use Rattle.h4.proofs.Splitting.{whole_le, packets_none, packets_some}
 use Rattle.records.specs.Lines.{hex_digit, hex_of, hex_line}
-
--- what is written behind the octets that a buffer holds is behind them
-pub pushed : {xs : List ℕ} {n : ℕ} {ys : List ℕ} {r : ℕ} {after : List ℕ} → Put xs n ys r after → take r after ≡ take n xs ++ ys
-pushed {xs} {n} p = put_front (put_then held p) where
-  long : length (take n xs) ≡ n
-  long = length-take-le n xs (omega (arith, p.room))
-
-  held : Put xs 0 (take n xs) n xs
-  held = record {
-    room = omega (arith, long, p.room);
-    next = omega (arith, long);
-    leaves = sym (splice_front xs (take n xs) ∙ rw long (take-append-drop n xs));
-  }
 
 -- two pushes are one
 pub joined : (a x y : List ℕ) {b c : List ℕ} → b ≡ a ++ x → c ≡ b ++ y → c ≡ a ++ (x ++ y)
@@ -83,11 +68,12 @@ hex_end a octets j h e = rw (take_all j octets h) at e
 -- ---- a packet at the front
 
 -- it is not there, where its length is not told
-pub whole_untold : (p : List ℕ) (r : Result (Option ℕ) StreamError) → r ≡ packet_length p → result_ok r ≡ None → whole p ≡ 0
+pub whole_untold : (p : List ℕ) (r : Result (Option ℕ) UndefinedIndicator) → r ≡ packet_length p → result_ok r ≡ None
+    → whole p ≡ 0
 whole_untold p (Ok o) e n = absurd (none-some o (sym n))
 whole_untold p (Err x) e n = whole_lost p x (sym e)
 
-pub told : (r : Result (Option ℕ) StreamError) (o : Option ℕ) → result_ok r ≡ Some o → r ≡ Ok o
+pub told : (r : Result (Option ℕ) UndefinedIndicator) (o : Option ℕ) → result_ok r ≡ Some o → r ≡ Ok o
 told (Ok x) o e = ap Ok (same_Some _ _ e)
 told (Err x) o e = absurd (none-some o e)
 

@@ -11,7 +11,7 @@ abbrev pub call_of : Record → List ℕ → Call
 call_of (says.Packet n) packet = on_packet (replicate 6 0) 0 (take n packet)
 call_of (says.Take handle most) packet = take_transmit handle most
 call_of (says.Completed handle count) packet = completed handle count
-call_of (says.Open o) packet = open_connection o.handle o.interval o.latency o.timeout
+call_of (says.Open handle timing) packet = open_connection handle timing.interval timing.latency timing.timeout
 
 abbrev pub line_of : Option Record → List ℕ → Line
 line_of (Some r) packet = calls (call_of r packet)

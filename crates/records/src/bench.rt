@@ -3,7 +3,8 @@ ghost use Rattle.std.specs.Prelude.{◌≡◌};
 ghost use Rattle.state.specs.Holding.{StateHolds};
 ghost use Rattle.bench_profile.specs.Bench.{bench_controller};
 
-use crate::{Opening, Record, Text, read, rows};
+use crate::{Record, Text, read, rows};
+use links::Timing;
 use profile::ControllerRow;
 use state::Controller;
 
@@ -63,14 +64,15 @@ impl Unit {
         }
     }
 
-    // How many buffers are in use.
+    // How many buffers are in use. By `as`, of which it is proved that it fits: `try_from` would give an error that never comes.
     fn used(&self) -> u8
         ensures { (size : ℕ) (pool : List ℕ) → result ≡ in_use (view self.now.state.links size pool) }
     {
         links::buffers_in_use(self.state.links) as u8
     }
 
-    // What is printed for an answer: a line for each of its packets, and the line that ends it.
+    // What is printed for an answer: a line for each of its packets, and the line that ends it. Each call keeps its new state
+    // itself, by one line: were that done here, this would be handed the state and require of it what `Unit` holds.
     fn text(&self, letter: u8, octets: &[u8], number: u8) -> Text
         requires { length octets.now ≤ 71 }
         ensures { (size : ℕ) (pool : List ℕ)
@@ -134,18 +136,11 @@ impl Unit {
     }
 
     // A link that opens, of which the host hears nothing.
-    fn make_open(&mut self, o: Opening) -> Text
-        ensures { Prints (call.open_connection o.handle o.interval o.latency o.timeout)
+    fn make_open(&mut self, handle: u16, timing: Timing) -> Text
+        ensures { Prints (call.open_connection handle timing.interval timing.latency timing.timeout)
             (held self.old.state self.old.pool) (held self.new.state self.new.pool) (text_of result) }
     {
-        let r = controller::open_connection(
-            bench_profile(),
-            self.state,
-            o.handle,
-            o.interval,
-            o.latency,
-            o.timeout,
-        );
+        let r = controller::open_connection(bench_profile(), self.state, handle, timing);
         self.state = r.state;
         self.text(b'E', &[], r.number)
     }
@@ -157,9 +152,9 @@ impl Unit {
     {
         match record {
             Record::Packet(n) => self.make_packet(&packet[..n.min(packet.len())]),
-            Record::Take(handle, most) => self.make_take(handle, most),
-            Record::Completed(handle, count) => self.make_completed(handle, count),
-            Record::Open(o) => self.make_open(o),
+            Record::Take { handle, most } => self.make_take(handle, most),
+            Record::Completed { handle, count } => self.make_completed(handle, count),
+            Record::Open { handle, timing } => self.make_open(handle, timing),
         }
     }
 

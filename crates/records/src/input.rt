@@ -27,7 +27,8 @@ fn run_lines(mut unit: Unit, input: &[u8], out: &mut [u8], at: usize) -> usize
     let mut packet = [0; 1024];
     let mut p = at;
     let mut rest = input;
-    // No `for` over `split_inclusive`: it yields each line with its newline, and taking that off needs a longer proof.
+    // No `for` over `split_inclusive`: it yields a line with its newline, if it has one, and `strip_suffix` behind it speaks of
+    // the line's end, where the definition of the lines speaks of the first newline, as `split_line` does.
     while !rest.is_empty() {
         if out.len() - p < 512 {
             return p;

@@ -1,14 +1,14 @@
-// The text of an answer: octets in hex, and lines.
-ghost use Rattle.std.specs.Prelude.{◌≡◌, ◌≤◌, ℕ, take, drop, MatchOption};
+// The text of an answer: octets in hex, and lines. Printed by hand, since there is no heap: `write!` into an array has a Result
+// for the full one, where these require the room.
+ghost use Rattle.std.specs.Prelude.{◌≡◌, ◌≤◌, take, drop, MatchOption};
 ghost use Rattle.h4.specs.Framing.{whole};
 ghost use Rattle.records.specs.Lines.{hex_digit};
 
-// At most 512 octets.
+use lists::Held;
+
 #[derive(Clone, Copy)]
 pub struct Text {
-    octets: [u8; 512],
-    len: usize,
-    pub ghost fits: { len ≤ 512 },
+    octets: Held<u8, 512>,
 }
 
 impl Text {
@@ -22,15 +22,14 @@ impl Text {
         ensures { text_of result ≡ [] }
     {
         Text {
-            octets: [0; 512],
-            len: 0,
+            octets: Held::new(),
         }
     }
 
     pub fn as_slice(&self) -> &[u8]
         ensures { result.now ≡ text_of self.now }
     {
-        &self.octets[..self.len]
+        self.octets.as_slice()
     }
 
     // These octets behind the text.
@@ -38,7 +37,7 @@ impl Text {
         requires { length (text_of self.old) + length octets.now ≤ 512 }
         ensures { text_of self.new ≡ text_of self.old ++ octets.now }
     {
-        self.len = octets::put(&mut self.octets, self.len, octets);
+        self.octets.extend(octets);
     }
 
     // Octets in hex, two digits each.

@@ -4,7 +4,8 @@ ghost use Rattle.std.specs.Prelude.{◌≡◌, ◌==◌, List, [], ◌∷◌, �
 ghost use Rattle.records.specs.Lines.{fields, read_fields, read_line};
 ghost use Rattle.records.specs.Reading.{line_of, digit_of, number_of, first_of, pair_of};
 
-use crate::{Opening, Record};
+use crate::Record;
+use links::Timing;
 
 // The record of a line, without its newline. A packet's octets go to the front of packet.
 pub fn read_line(line: &[u8], packet: &mut [u8; 1024]) -> Option<Record>
@@ -19,11 +20,11 @@ pub fn read_line(line: &[u8], packet: &mut [u8; 1024]) -> Option<Record>
         b'O' => read_opening(rest),
         b'T' => {
             let (handle, most) = read_pair(rest)?;
-            Some(Record::Take(handle, most))
+            Some(Record::Take { handle, most })
         }
         b'C' => {
             let (handle, count) = read_pair(rest)?;
-            Some(Record::Completed(handle, count))
+            Some(Record::Completed { handle, count })
         }
         _ => None,
     }
@@ -33,18 +34,15 @@ pub fn read_line(line: &[u8], packet: &mut [u8; 1024]) -> Option<Record>
 fn read_packet(rest: &[u8], packet: &mut [u8; 1024]) -> Option<Record>
     ensures { line_of result packet.new ≡ read_fields ((80 ∷ []) ∷ fields rest.now) }
 {
-    let n = rest.len() / 2;
-    if rest.len() != 2 * n || 1024 < n {
+    let (pairs, odd) = rest.as_chunks::<2>();
+    if !odd.is_empty() || packet.len() < pairs.len() {
         return None;
     }
-    for j in 0..n {
-        packet[j] = 16 * hex_value(rest[2 * j])? + hex_value(rest[2 * j + 1])?;
+    for (j, [high, low]) in pairs.iter().enumerate() {
+        packet[j] = 16 * hex_value(*high)? + hex_value(*low)?;
     }
-    Some(Record::Packet(n))
+    Some(Record::Packet(pairs.len()))
 }
-
-// The last hex digit.
-const LAST_DIGIT: u8 = b'f';
 
 // The value of a lower-case hex digit. The library's `to_digit` takes upper-case ones too.
 fn hex_value(x: u8) -> Option<u8>
@@ -52,7 +50,7 @@ fn hex_value(x: u8) -> Option<u8>
 {
     match x {
         b'0'..=b'9' => Some(x - b'0'),
-        b'a'.. if x <= LAST_DIGIT => Some(x - b'a' + 10),
+        b'a'..=b'f' => Some(x - b'a' + 10),
         _ => None,
     }
 }
@@ -65,12 +63,12 @@ fn read_opening(rest: &[u8]) -> Option<Record>
     let behind = &rest[i..];
     let (interval, j) = first_number(behind)?;
     let (latency, timeout) = read_pair(&behind[j..])?;
-    Some(Record::Open(Opening {
-        handle,
+    let timing = Timing {
         interval,
         latency,
         timeout,
-    }))
+    };
+    Some(Record::Open { handle, timing })
 }
 
 // The numbers of two fields, where there are two and no more.

@@ -1,4 +1,5 @@
-// Octets in hex, two digits each; the program `vectors` has its own, since no crate stands below both. For run.rt.
+// Octets in hex, two digits each; the program `vectors` has its own, since a crate below both would be longer than this. For
+// run.rt.
 use std::fmt;
 
 #[derive(Drop)]

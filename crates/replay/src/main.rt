@@ -34,7 +34,8 @@ fn main(rt: HostRuntime) -> io::Result<()> {
     Ok(())
 }
 
-// Replays one run of the input; whether there was one that fits.
+// Replays one run of the input; whether there was one that fits: a bool, since `?` is for what a read or a write fails with, and
+// the one caller would test a ControlFlow in the same place.
 fn one_run(rt: &impl Print, alloc: Global, input: &mut impl Read) -> io::Result<bool> {
     let head = next_octets(alloc, input, 24)?;
     let Some(sizes) = Sizes::of(head.as_slice()) else {

@@ -5,7 +5,7 @@ use state::Controller;
 // The first two queries are of this handle.
 pub fn found(profile: ControllerRow, s: Controller, handle: u16) -> [u8; 7] {
     let connected = controller::has_connection(profile, s, handle).connected;
-    let reason = controller::terminating(profile, s, handle).reason;
+    let reason = controller::terminating(profile, s, handle).unwrap_or(None);
     let free = controller::free_handle(profile, s).handle;
     let used = controller::acl_buffers_in_use(profile, s).count;
     let [free_low, free_high] = free.to_le_bytes();

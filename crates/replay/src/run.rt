@@ -13,7 +13,7 @@ use std::io;
 const LONGEST_ANSWER: usize = 40960;
 
 // A unit during a run: what it was set up with, its state, and the buffers that the calls are lent. The buffers are the run's
-// own, so that it finds nothing of an earlier run.
+// own, so that it finds nothing of an earlier run. The rows are three arrays, as the call takes them for C.
 #[derive(Drop)]
 struct Unit<'a> {
     setup: Setup<'a>,
@@ -27,7 +27,7 @@ struct Unit<'a> {
 }
 
 // What a call gave: the state after it, the number of the refusal or 0, how many packets were taken, and how many octets stand at
-// the front of the buffer.
+// the front of the buffer. A number, as the calls answer it for C and the sample has it.
 #[derive(Clone, Copy)]
 struct Reply {
     state: Controller,
@@ -177,9 +177,7 @@ impl<'a> Unit<'a> {
             request.handle,
             request.peer_type,
             &request.peer,
-            request.timing.interval,
-            request.timing.latency,
-            request.timing.timeout,
+            request.timing,
             request.accuracy,
             self.events.as_mut_slice(),
         )
@@ -191,20 +189,16 @@ impl<'a> Unit<'a> {
         let s = self.state;
         let events = self.events.as_mut_slice();
         match notice {
-            Notice::Opened { handle, timing: t } => {
-                controller::open_connection(
-                    profile, s, handle, t.interval, t.latency, t.timeout,
-                ).into()
+            Notice::Opened { handle, timing } => {
+                controller::open_connection(profile, s, handle, timing).into()
             }
             Notice::Completed { handle, count } => {
                 controller::completed(profile, s, handle, count, events).into()
             }
             Notice::Gone { count } => controller::drop_in_flight(profile, s, count).into(),
             Notice::Accepted(request) => self.accepted(request),
-            Notice::Updated { handle, timing: t } => {
-                controller::peer_update(
-                    profile, s, handle, t.interval, t.latency, t.timeout, events,
-                ).into()
+            Notice::Updated { handle, timing } => {
+                controller::peer_update(profile, s, handle, timing, events).into()
             }
             Notice::KeyRequested {
                 handle,

@@ -57,11 +57,11 @@ impl<'a> Setup<'a> {
         let address = reader.octets()?;
         let random = reader.long()?;
         let (rows, behind) = reader.rest().as_chunks();
-        let place = state::place_size(profile);
+        let places = state::places(profile);
         let fits = behind.is_empty()
             && rows.len() <= 256
             && profile::within_limits(profile)
-            && usize::from(profile.acl_count) <= pool / place;
+            && places.count <= pool / places.size;
         fits.then_some(Setup {
             profile,
             address,
@@ -70,6 +70,7 @@ impl<'a> Setup<'a> {
         })
     }
 
+    // The columns of the rows. Each is a pattern: a function handed that as a closure would save no line.
     pub fn opcodes(&self, alloc: Global) -> Result<Vec<u16>, AllocError> {
         self.rows
             .iter()

@@ -5,13 +5,18 @@ ghost use Rattle.state.specs.Holding.{place_size, state_holds};
 
 use crate::{Advertising, Controller, Recent, Settings};
 use filters::{AcceptList, ResolvingList};
+use links::Places;
 use profile::ControllerRow;
 
-// How many octets a place of the pool has: the longest packet's data, and the five octets before them.
-pub fn place_size(profile: ControllerRow) -> usize
-    ensures { result ≡ place_size profile }
+// The places of the pool: one for each packet that the profile has room for, with the longest packet's data and the five octets
+// before them.
+pub fn places(profile: ControllerRow) -> Places
+    ensures { (result.count ≡ profile.acl_count) × (result.size ≡ place_size profile) }
 {
-    usize::from(profile.acl_len) + 5
+    Places {
+        count: usize::from(profile.acl_count),
+        size: usize::from(profile.acl_len) + 5,
+    }
 }
 
 // Does the state hold together for a profile?
@@ -20,7 +25,7 @@ pub fn holds(s: Controller, profile: ControllerRow) -> bool
     ensures { result ≡ state_holds s profile }
 {
     own_parts_hold(s.settings, s.advertising, s.recent)
-        && links::links_hold(s.links, usize::from(profile.acl_count), place_size(profile))
+        && links::links_hold(s.links, places(profile))
         && accept_holds(s.accept_list, profile.accept_list_size)
         && resolving_holds(s.resolving_list, profile.resolving_list_size)
 }

@@ -30,7 +30,8 @@ impl Advertising {
         self.params[5]
     }
 
-    // The same with other advertising data (section 7.8.7).
+    // The same with other advertising data (section 7.8.7). The length by `as`: it is at most 31, and `try_from` would want a
+    // branch that no run takes.
     #[tactic(auto, using(octets::proofs::Writing::put_front))]
     pub fn with_data(mut self, load: &[u8]) -> Advertising
         requires { length load.now ≤ 31 }

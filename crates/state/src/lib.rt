@@ -11,7 +11,7 @@ mod start;
 
 use filters::{AcceptList, ResolvingList};
 pub use history::remember;
-pub use hold::{holds, place_size};
+pub use hold::{holds, places};
 use links::Links;
 pub use look::{accept_list_in_use, busy};
 pub use start::{default_state, reset};

@@ -42,7 +42,7 @@ fn initiator_filters(scanning: Scanning) -> bool
     scanning.initiating != 0 && scanning.initiator_filter != 0
 }
 
-// Whether a mask has a bit.
+// Whether a mask has a bit. Bits are constants of `hci::mask` or a subevent's code less one: a type of their own is no plainer.
 fn has_bit(mask: u64, bit: u32) -> bool
     requires { bit < 64 }
     ensures { result ≡ (bit_of mask bit == 1) }

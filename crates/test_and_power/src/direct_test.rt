@@ -1,16 +1,16 @@
 // Direct Test Mode (Core Vol 4 Part E sections 7.8.28 to 7.8.30). No packet is counted: none reaches a receiver that is not
 // there.
-ghost use Rattle.std.specs.Prelude.{◌≡◌, [], ◌≤◌};
+ghost use Rattle.std.specs.Prelude.{◌≡◌, [], ◌∷◌, ◌≤◌};
 ghost use Rattle.state.specs.State.{view};
-ghost use Rattle.commands.specs.Outcome.{GivesAny, Ready, done};
-ghost use Rattle.commands.specs.Refused.{Yields};
+ghost use Rattle.answers.specs.Answers.{complete};
+ghost use Rattle.commands.specs.Outcome.{Ready, done};
+ghost use Rattle.commands.specs.Refused.{Yields, YieldsAny};
 ghost use Rattle.commands.specs.Put.{put_settings};
 ghost use Rattle.commands.specs.Test.{idle as is_idle};
 ghost use Rattle.commands.specs.Test.{test_phy, start_test, test_end};
 ghost use Rattle.commands.specs.Test.{receiver_test, transmitter_test, receiver_test2, transmitter_test2};
 
-use commands::{Answered, ErrorCode};
-use hci::status::{COMMAND_DISALLOWED, SUCCESS};
+use commands::ErrorCode;
 use profile::ControllerRow;
 use state::{Controller, Settings};
 
@@ -27,7 +27,8 @@ fn idle(s: Controller) -> bool
     !state::busy(s) && s.settings.test == 0 && s.links.count == 0
 }
 
-// Whether the controller has the PHY of a test: 1 LE 1M, 2 LE 2M, 3 LE Coded, and for sending 4 LE Coded S=2.
+// Whether the controller has the PHY of a test: 1 LE 1M, 2 LE 2M, 3 LE Coded, and for sending 4 LE Coded S=2. `phy` is the host's
+// octet: any other number is refused here.
 #[tactic(auto, unfolding(commands::specs::Test::test_phy, commands::specs::Checks::phys))]
 fn test_phy(profile: ControllerRow, transmit: bool, phy: u8) -> bool
     ensures { result ≡ test_phy profile transmit phy }
@@ -128,21 +129,15 @@ pub fn transmitter_test_v2(
     start_test(s, profile, true, channel, phy, payload <= 0x07)
 }
 
-// LE Test End (section 7.8.30).
+// LE Test End (section 7.8.30): answered with the number of packets, two octets of 0.
 #[tactic(auto, unfolding(commands::specs::Test::test_end))]
-pub fn test_end(s: Controller) -> Answered<Settings>
-    ensures { GivesAny test_end s (put_settings result.part s) result.answer }
+pub fn test_end(s: Controller) -> Result<Settings, ErrorCode>
+    ensures { YieldsAny (λ code. complete (code ∷ 0 ∷ 0 ∷ [])) test_end put_settings s.settings s result }
 {
     let mut settings = s.settings;
     if settings.test == 0 {
-        return Answered {
-            part: settings,
-            answer: answers::complete(&[COMMAND_DISALLOWED, 0, 0]),
-        };
+        return Err(ErrorCode::CommandDisallowed);
     }
     settings.test = 0;
-    Answered {
-        part: settings,
-        answer: answers::complete(&[SUCCESS, 0, 0]),
-    }
+    Ok(settings)
 }

@@ -9,7 +9,6 @@ ghost use Rattle.commands.specs.Test.{read_power_range, read_path_compensation, 
 
 use answers::Answer;
 use commands::ErrorCode;
-use hci::status::SUCCESS;
 use profile::ControllerRow;
 use state::{Controller, Settings};
 
@@ -20,7 +19,7 @@ pub fn read_power_range(profile: ControllerRow) -> Answer
 {
     let least = profile.tx_power_min.cast_unsigned();
     let greatest = profile.tx_power_max.cast_unsigned();
-    answers::complete(&[SUCCESS, least, greatest])
+    commands::succeeded(&[least, greatest])
 }
 
 // LE Read RF Path Compensation (section 7.8.75): for sending, then for receiving.
@@ -28,16 +27,8 @@ pub fn read_power_range(profile: ControllerRow) -> Answer
 pub fn read_path_compensation(settings: Settings) -> Answer
     ensures { Answers (read_path_compensation settings) result }
 {
-    let [transmit, receive] = settings.rf_path_compensation;
-    let [transmit_low, transmit_high] = transmit.to_le_bytes();
-    let [receive_low, receive_high] = receive.to_le_bytes();
-    answers::complete(&[
-        SUCCESS,
-        transmit_low,
-        transmit_high,
-        receive_low,
-        receive_high,
-    ])
+    let words = settings.rf_path_compensation.map(u16::to_le_bytes);
+    commands::succeeded(words.as_flattened())
 }
 
 // LE Write RF Path Compensation (section 7.8.76): -128.0 dB (0xFB00) to 128.0 dB (0x0500) in 0.1 dB.

@@ -6,7 +6,7 @@ use mathlib.Core.Bool.{true, and-eq-true_iff}
 use mathlib.Core.Path.{◌≡◌, refl, sym, ap, ◌∙◌}
 use mathlib.Core.List.{List, [], ◌∷◌, ◌++◌, flatten, append_assoc, append-nil}
 use lib.ListN.{length, take, drop, get_or, length-append, length-drop, take-append-drop}
-use lib.Seq.{length-take-le, take-suc, take_all}
+use lib.Seq.{length-take-le, take-suc}
 use borrow.Author.Tests.{leb-true}
 use Rattle.lists.specs.Lists.{all, read_at}
 use Rattle.lists.proofs.Tests.{all_at}
@@ -92,7 +92,3 @@ module _ {packets : List Waiting} {size : ℕ} {pool out₀ out : List ℕ} {at 
         → Put out at (read_at size pool (get_or packets i d).place (get_or packets i d).len) r after
         → Copying packets size pool out₀ after r (i + 1)
     copy_more p = record { can = c.can; copied = rw next (put_then c.copied p) }
-
-pub copy_end : {packets : List Waiting} {size : ℕ} {pool out₀ out : List ℕ} {at i : ℕ} → Copying packets size pool out₀ out at i
-    → length packets ≤ i → Put out₀ 0 (end_to_end size pool packets) at out
-copy_end {packets} {i = i} c done = let whole = take_all i packets done in (rw whole at c.copied)

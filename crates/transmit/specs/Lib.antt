@@ -1,4 +1,3 @@
 -- The definitions of queueing and taking packets.
 pub mod Transmit
 pub mod Steps
-pub mod Queue

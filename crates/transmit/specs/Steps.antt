@@ -1,6 +1,6 @@
 -- What the steps of queueing and of taking do, on the list of the waiting packets: for the contracts of the functions of this
 -- crate that no other crate calls.
-use Rattle.std.specs.Prelude.{◌≡◌, ℕ, ◌+◌, ◌*◌, ◌≤◌, Bool, true, false, cond, eqb, leb, ltb, length, get_or, set}
+use Rattle.std.specs.Prelude.{◌≡◌, ℕ, ◌+◌, ◌*◌, ◌≤◌, ◌<◌, Bool, true, false, not, leb, ltb, length, get_or, set}
 use mathlib.Core.List.{List, [], ◌∷◌, map, flatten}
 use Rattle.lists.specs.Lists.{any, all, keyed, taken, leaving, read_at}
 use Rattle.links.specs.Links.{waits_for}
@@ -19,14 +19,14 @@ pub record CanMark (l : List Waiting) (n : ℕ) : Type 0 where
   pub few : n ≤ 32
   pub placed : all (place_below 32) l ≡ true
 
--- 1 stands at the places that the packets own, 0 at the others
-pub record Marks (l : List Waiting) (marks : List ℕ) : Type 0 where
+-- the marks tell of each of the 32 places whether a packet owns it
+pub record Marks (l : List Waiting) (marks : List Bool) : Type 0 where
   pub long : length marks ≡ 32
-  pub marked : (place : ℕ) → get_or marks place 0 ≡ cond (any (keyed place_of place) l) 1 0
+  pub marked : (place : ℕ) → place < 32 → get_or marks place false ≡ any (keyed place_of place) l
 
 -- a place without a mark
-abbrev pub is_free : ℕ → Bool
-is_free mark = eqb mark 0
+abbrev pub is_free : Bool → Bool
+is_free mark = not mark
 
 -- no packet owns the place, which is one of the first n + 1
 pub record FreePlace (l : List Waiting) (n place : ℕ) : Type 0 where

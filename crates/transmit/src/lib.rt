@@ -1,5 +1,5 @@
-// Packets in the pool: queueing one for a link, and taking a link's packets for the air. The pool is lent by the caller:
-// `places` places of `size` octets each. For data packets and `take_transmit` of the controller. Both give the waiting packets
+// Packets in the pool: queueing one for a link, and taking a link's packets for the air. The pool is lent by the caller, with
+// what places it has. For data packets and `take_transmit` of the controller. Both give the waiting packets
 // and no more of the links, which the caller puts together: were all of them to go through, they would be copied more often
 // (docs/SPEED.md). Contracts cite `specs/Transmit.antt`, those of the steps `specs/Steps.antt`.
 #![tactic(auto)]
@@ -8,34 +8,30 @@ ghost use Rattle.std.specs.Prelude.{◌≡◌, ◌+◌, ◌*◌, ◌≤◌, leng
 ghost use Rattle.lists.specs.Lists.{first_at, read_at};
 ghost use Rattle.octets.specs.Octets.{Put};
 ghost use Rattle.transmit.specs.Transmit.{CanQueue, Queued, PoolFits, Takes};
-ghost use Rattle.transmit.specs.Queue.{packets};
+ghost use Rattle.lists.specs.Held.{held};
 ghost use Rattle.transmit.specs.Steps.{CanMark, Marks, is_free, FreePlace, Parts, CanCopy, end_to_end};
 
-mod queue;
+use links::{Links, Places, Waiting};
+use lists::Held;
 
-use links::{Links, Waiting};
-use queue::Queue;
-
-// Which of the 32 places the waiting packets own: 1 at those, 0 at the others.
-fn owned_places(waiting: &[Waiting]) -> [u8; 32]
+// Which of the 32 places the waiting packets own.
+#[tactic(auto, using(crate::proofs::Places::owned_none, crate::proofs::Places::marked_below))]
+fn owned_places(waiting: &[Waiting]) -> [bool; 32]
     requires { CanMark waiting.now (length waiting.now) }
     ensures { Marks waiting.now result }
 {
-    let mut marks = [0; 32];
+    let mut owned = [false; 32];
     for w in waiting {
-        marks[usize::from(w.place)] = 1;
+        owned[usize::from(w.place)] = true;
     }
-    marks
+    owned
 }
 
-// The lowest place that is not marked, or how many places there are.
-fn lowest_free(marks: &[u8]) -> usize
-    ensures { result ≡ first_at is_free marks.now }
+// The lowest place that is not owned, or how many places there are.
+fn lowest_free(owned: &[bool]) -> usize
+    ensures { result ≡ first_at is_free owned.now }
 {
-    marks
-        .iter()
-        .position(|mark| *mark == 0)
-        .unwrap_or(marks.len())
+    owned.iter().position(|own| !*own).unwrap_or(owned.len())
 }
 
 // A place that none of the waiting packets owns, one of the lowest as many and one more.
@@ -43,27 +39,26 @@ fn free_place(waiting: &[Waiting]) -> usize
     requires { CanMark waiting.now (length waiting.now) }
     ensures { FreePlace waiting.now (length waiting.now) result }
 {
-    let marks = owned_places(waiting);
-    lowest_free(&marks[..waiting.len()])
+    let owned = owned_places(waiting);
+    lowest_free(&owned[..waiting.len()])
 }
 
 // The waiting packets with one more, the first n octets of packet, copied to a place that no waiting packet owns.
 pub fn enqueue(
     links: Links,
     pool: &mut [u8],
-    size: usize,
-    places: usize,
+    places: Places,
     handle: u16,
     packet: &[u8],
     n: usize,
 ) -> [Waiting; 32]
-    requires { CanQueue links size places handle n pool.old packet.now }
-    ensures { Queued links size places handle (take n packet.now) pool.old result pool.new }
+    requires { CanQueue links places.size places.count handle n pool.old packet.now }
+    ensures { Queued links places.size places.count handle (take n packet.now) pool.old result pool.new }
 {
     let mut waiting = links.waiting;
     let count = links.waiting_count;
     let place = free_place(links.waiting());
-    octets::put(pool, place * size, &packet[..n]);
+    octets::put(pool, place * places.size, &packet[..n]);
     // By `as`: a packet has at most 1,024 octets and a place is below 32, and `try_from` would want a branch that no run takes.
     waiting[count] = Waiting {
         handle,
@@ -73,8 +68,8 @@ pub fn enqueue(
     waiting
 }
 
-// What taking gives: the packets that wait on, how many they are and how many are in flight; and how many packets and octets
-// were written.
+// What taking gives: the packets that wait on, how many they are and how many are in flight, each as the links have it (of a
+// `Held` the caller would take the array and the number again); and how many packets and octets were written.
 #[derive(Clone, Copy)]
 pub struct Taken {
     pub waiting: [Waiting; 32],
@@ -87,21 +82,21 @@ pub struct Taken {
 // The packets that wait, parted: those to be taken, how many octets they have together, and those that wait on.
 #[derive(Clone, Copy)]
 struct Parted {
-    taken: Queue,
+    taken: Held<Waiting, 32>,
     len: usize,
-    left: Queue,
+    left: Held<Waiting, 32>,
 }
 
 // The first packets of a link, up to max, and the others.
 fn part(waiting: &[Waiting], handle: u16, max: usize) -> Parted
     requires { length waiting.now ≤ 32 }
-    ensures { Parts waiting.now handle max (packets result.taken) result.len (packets result.left) }
+    ensures { Parts waiting.now handle max (held result.taken) result.len (held result.left) }
 {
-    let mut taken = Queue::new();
+    let mut taken = Held::new();
     let mut len = 0;
-    let mut left = Queue::new();
+    let mut left = Held::new();
     for w in waiting {
-        if w.handle == handle && usize::from(taken.len()) < max {
+        if w.handle == handle && taken.len() < max {
             taken.push(*w);
             len += usize::from(w.len);
         } else {
@@ -111,23 +106,24 @@ fn part(waiting: &[Waiting], handle: u16, max: usize) -> Parted
     Parted { taken, len, left }
 }
 
-// Copies the packet of len octets at a place of the pool into out from index at, and gives the index after it.
-fn copy_one(place: u8, len: u16, pool: &[u8], size: usize, out: &mut [u8], at: usize) -> usize
-    requires { (place * size + len ≤ length pool.now) × (at + len ≤ length out.old) }
-    ensures { Put out.old at (read_at size pool.now place len) result out.new }
+// Copies a packet out of its place of the pool into out from index at, and gives the index after it.
+fn copy_one(w: Waiting, pool: &[u8], places: Places, out: &mut [u8], at: usize) -> usize
+    requires { (w.place * places.size + w.len ≤ length pool.now) × (at + w.len ≤ length out.old) }
+    ensures { Put out.old at (read_at places.size pool.now w.place w.len) result out.new }
 {
-    let start = usize::from(place) * size;
-    octets::put(out, at, &pool[start..start + usize::from(len)])
+    let start = usize::from(w.place) * places.size;
+    octets::put(out, at, &pool[start..start + usize::from(w.len)])
 }
 
 // Copies the packets out of their places to the front of out, end to end.
-fn copy(packets: &[Waiting], pool: &[u8], size: usize, out: &mut [u8]) -> usize
-    requires { CanCopy packets.now (length packets.now) size pool.now out.old }
-    ensures { Put out.old 0 (end_to_end size pool.now packets.now) result out.new }
+#[tactic(auto, using(crate::proofs::Octets::copy_none))]
+fn copy(packets: &[Waiting], pool: &[u8], places: Places, out: &mut [u8]) -> usize
+    requires { CanCopy packets.now (length packets.now) places.size pool.now out.old }
+    ensures { Put out.old 0 (end_to_end places.size pool.now packets.now) result out.new }
 {
     let mut at: usize = 0;
     for w in packets {
-        at = copy_one(w.place, w.len, pool, size, out, at);
+        at = copy_one(*w, pool, places, out, at);
     }
     at
 }
@@ -137,26 +133,26 @@ fn copy(packets: &[Waiting], pool: &[u8], size: usize, out: &mut [u8]) -> usize
 pub fn take(
     links: Links,
     pool: &[u8],
-    size: usize,
-    places: usize,
+    places: Places,
     handle: u16,
     max: usize,
     out: &mut [u8],
 ) -> Option<Taken>
-    requires { PoolFits links size places pool.now }
-    ensures { Takes links size places handle max pool.now out.old result out.new }
+    requires { PoolFits links places.size places.count pool.now }
+    ensures { Takes links places.size places.count handle max pool.now out.old result out.new }
 {
     let Parted { taken, len, left } = part(links.waiting(), handle, max);
     if out.len() < len {
         return None;
     }
-    copy(taken.as_slice(), pool, size, out);
+    copy(taken.as_slice(), pool, places, out);
+    // By `as` where it goes in flight: at most 32 packets wait.
     let count = taken.len();
     Some(Taken {
-        waiting: left.array(),
-        waiting_count: usize::from(left.len()),
-        in_flight: links.in_flight + count,
-        count: usize::from(count),
+        waiting: left.into_array(),
+        waiting_count: left.len(),
+        in_flight: links.in_flight + count as u16,
+        count,
         len,
     })
 }

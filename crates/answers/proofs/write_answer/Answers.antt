@@ -3,4 +3,4 @@ use Rattle.octets.proofs.Writing.{put_then}
 use Rattle.answers.proofs.write_answer.Goals as goal
 
 pub returns : goal.returns
-returns c = put_then (rw c.as_slice.ensures at c.acknowledge-at.ensures) (rw c.as_slice-2.ensures at c.put.ensures)
+returns c = put_then c.acknowledge-at.ensures c.write_event.ensures

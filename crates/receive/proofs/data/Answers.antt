@@ -43,7 +43,7 @@ returns-then-buffers_in_use-places c =
     let used = c.buffers_in_use.ensures (place_size k) c.args.pool.now in
     delivers_dropped c.requires.ready.holds
     (no_buffer k m header linked c.if-header-profile.false
-    (omega (arith, used, c.from-places.ensures, c.if-buffers_in_use-places.true)))
+    (omega (arith, used, c.places-places.ensures.0, c.if-buffers_in_use-places.true)))
     c.dropped-then-buffers_in_use-places.ensures
 
 pub enqueue-waiting-requires : goal.enqueue-waiting-requires
@@ -54,7 +54,7 @@ enqueue-waiting-requires c =
     let ready = c.requires.ready in
     let wide : length links.waiting ≡ 32 = search (rules, length_of_map, c.well_formed) in
     let used = in_use_lem links wide ready.holds.links.few_waiting 0 [] in
-    rw (c.place_size-size.ensures, c.from-places.ensures, c.from-n.ensures)
+    rw (c.places-places.ensures.1, c.places-places.ensures.0, c.from-n.ensures)
     (record {
       fits = record {
         held = ready.holds.links;
@@ -63,7 +63,7 @@ enqueue-waiting-requires c =
         room = c.requires.places;
       };
       linked = (both (flags_served c.in-Ok.header) _ linked).1;
-      free = omega (arith, used, c.buffers_in_use.ensures 0 [], c.from-places.ensures, c.if-buffers_in_use-places.false);
+      free = omega (arith, used, c.buffers_in_use.ensures 0 [], c.places-places.ensures.0, c.if-buffers_in_use-places.false);
       least = omega arith;
       most = omega (arith, c.if-header-profile.false);
       given = omega (arith, (acl_tells _ header).present);
@@ -78,5 +78,6 @@ returns c =
     let used = c.buffers_in_use.ensures (place_size k) c.args.pool.now in
     delivers_queued c.requires.ready.holds header
     (accepted k m header linked c.if-header-profile.false
-    (omega (arith, used, c.from-places.ensures, c.if-buffers_in_use-places.false)))
-    (rw (c.place_size-size.ensures, c.from-places.ensures, c.from-n.ensures) at c.enqueue-waiting.ensures) c.count_packet.ensures
+    (omega (arith, used, c.places-places.ensures.0, c.if-buffers_in_use-places.false)))
+    (rw (c.places-places.ensures.1, c.places-places.ensures.0, c.from-n.ensures) at c.enqueue-waiting.ensures)
+    c.count_packet.ensures

@@ -3,4 +3,4 @@ use Rattle.transmit.proofs.Octets.{Copying}
 use Rattle.transmit.proofs.copy.Given as goal
 
 abbrev pub invariant-loop-w : goal.invariant-loop-w
-invariant-loop-w l = Copying l.packets l.size l.pool l.initial.out l.out l.at l.w-index
+invariant-loop-w l = Copying l.packets l.places.size l.pool l.initial.out l.out l.at l.w-index

@@ -15,7 +15,7 @@ free_place-place-requires c =
     rw c.waiting.ensures
     (record {
       few = omega (arith, fits.held.few_waiting);
-      placed = all_below c.args.places c.args.size _ fits.most fits.held.fit;
+      placed = all_below c.args.places.count c.args.places.size _ fits.most fits.held.fit;
     })
 
 pub returns : goal.returns

@@ -4,4 +4,4 @@ use Rattle.transmit.proofs.Places.{free_found}
 use Rattle.transmit.proofs.free_place.Goals as goal
 
 pub returns : goal.returns
-returns c = rw c.lowest_free.ensures (free_found _ _ c.owned_places-marks.ensures _ refl c.requires.few)
+returns c = rw c.lowest_free.ensures (free_found _ _ c.owned_places-owned.ensures _ refl c.requires.few)

@@ -10,8 +10,8 @@ use Rattle.transmit.proofs.lowest_free.Goals as goal
 
 pub returns : goal.returns
 returns c =
-    let marks = c.args.marks.now in
-    let found : c.position.result ≡ position is_free marks =
-    position_from_yields_List is_free _ _ c.position.result c.position.ensures.ran (YieldsList-from_slice marks (cc))
+    let owned = c.args.owned.now in
+    let found : c.position.result ≡ position is_free owned =
+    position_from_yields_List is_free _ _ c.position.result c.position.ensures.ran (YieldsList-from_slice owned (cc))
     (λ x b q k. search (rules, tests)) in
-    c.unwrap_or.ensures ∙ ap (λ (o : Option ℕ). unwrap_or o (length marks)) found ∙ position_or is_free marks
+    c.unwrap_or.ensures ∙ ap (λ (o : Option ℕ). unwrap_or o (length owned)) found ∙ position_or is_free owned

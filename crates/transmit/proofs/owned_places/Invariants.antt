@@ -4,4 +4,4 @@ use Rattle.transmit.specs.Steps.{Marks}
 use Rattle.transmit.proofs.owned_places.Given as goal
 
 abbrev pub invariant-loop-w : goal.invariant-loop-w
-invariant-loop-w l = Marks (take l.w-index l.waiting) l.marks
+invariant-loop-w l = Marks (take l.w-index l.waiting) l.owned

@@ -10,6 +10,6 @@ copy-requires c = rw c.as_slice.ensures (take_copies c.requires (rw c.waiting.en
 
 pub returns : goal.returns
 returns c =
-    rw (c.from.ensures, c.from-2.ensures, c.len.ensures, c.len-count.ensures)
-    (take_done c.requires (rw c.waiting.ensures at c.part-len.ensures) _ c.array.ensures c.if-out-len.false
+    rw (c.len.ensures, c.len-count.ensures)
+    (take_done c.requires (rw c.waiting.ensures at c.part-len.ensures) _ c.into_array.ensures c.if-out-len.false
     (rw c.as_slice.ensures at c.copy.ensures))

@@ -9,7 +9,6 @@ finished-requires c =
     let answer = c.answer_for.ensures in
     record {
       few = c.requires.0.holds.recent;
-      holds = answer.shaped;
       modest = answer_modest c.args.reason c.args.profile c.args.op answer;
       room = c.requires.1;
     }

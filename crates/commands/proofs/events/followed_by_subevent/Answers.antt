@@ -1,8 +1,10 @@
 -- `commands::events::followed_by_subevent` meets its contract.
 use Rattle.std.proofs.Common.{arith}
+use Rattle.answers.specs.Answers.{answer_of}
 use Rattle.commands.proofs.Followed.{follows, wrote_front}
 use Rattle.commands.proofs.events.followed_by_subevent.Goals as goal
 
 pub returns : goal.returns
 returns c =
-    follows c.followed_by.ensures (rw c.unwrap_or-n.ensures (wrote_front c.le_meta.ensures (omega arith) (omega arith)))
+    follows (answer_of c.args.answer) c.followed_by.ensures
+    (rw c.unwrap_or-n.ensures (wrote_front c.le_meta.ensures (omega arith) (omega arith)))

@@ -8,4 +8,4 @@ pub returns : goal.returns
 returns c =
     put_whole (put_then (put_then c.put_two-peer_end.ensures c.put_two-at.ensures) c.put_two.ensures)
     (simp length-append (search rules))
-    ∙ rw c.timing_octets.ensures (simp append_assoc)
+    ∙ rw (c.as_flattened.ensures.value ∙ c.timing_octets.ensures) (simp append_assoc)

@@ -16,7 +16,7 @@ peer_update-r-requires c =
 pub heard-requires : goal.heard-requires
 heard-requires c =
     event_fits c.args.profile c.peer_update-r.ensures c.holds-held.ensures c.in_default.ensures
-    (alone (peer_update_tells c.args.handle c.args.interval c.args.latency c.args.timeout))
+    (alone (peer_update_tells c.args.handle c.args.timing.interval c.args.timing.latency c.args.timing.timeout))
 
 pub returns : goal.returns
 returns c =

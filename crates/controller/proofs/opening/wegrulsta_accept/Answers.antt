@@ -49,7 +49,8 @@ pub heard-requires : goal.heard-requires
 heard-requires c =
     let a = c.args in
     event_fits c.args.profile c.accept_connection-r.ensures c.holds-held.ensures c.in_default.ensures
-    (accept_connection_alone a.handle (cond (is_random a.peer_type) 1 0) a.peer.now a.interval a.latency a.timeout a.sca)
+    (accept_connection_alone a.handle (cond (is_random a.peer_type) 1 0) a.peer.now
+    a.timing.interval a.timing.latency a.timing.timeout a.sca)
 
 pub returns : goal.returns
 unfolding first_no

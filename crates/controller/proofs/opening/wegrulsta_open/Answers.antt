@@ -46,4 +46,4 @@ returns c =
     let yes = state_asked args.profile args.s c.holds-held.ensures c.in_default.ensures in
     gives_silent c.open_connection-r.ensures yes.held (λ pool opcodes answers bits. (refl, refl, refl))
     (λ pool opcodes answers bits. rw (yes.limits, yes.together, sym c.can_open.ensures ∙ c.if-not-can_open.false))
-    (open_connection_silent args.handle args.interval args.latency args.timeout)
+    (open_connection_silent args.handle args.timing.interval args.timing.latency args.timing.timeout)

@@ -7,15 +7,15 @@ returns-in-Err c = take_not c.holds-held.ensures c.in-Err.refusal c.in-Err.ensur
 
 pub take-requires : goal.take-requires
 take-requires c =
-    rw (c.place_size-size.ensures, c.from-places.ensures)
+    rw (c.places-places.ensures.1, c.places-places.ensures.0)
     (take_fits c.args.profile c.args.s c.args.pool.now c.holds-held.ensures c.in_default.ensures)
 
 pub returns-in_default-take : goal.returns-in_default-take
 returns-in_default-take c =
-    take_no_room c.holds-held.ensures c.in_default.ensures (rw c.place_size-size.ensures at c.in_default-take.ensures)
+    take_no_room c.holds-held.ensures c.in_default.ensures (rw c.places-places.ensures.1 at c.in_default-take.ensures)
     c.took-in_default-take.ensures
 
 pub returns : goal.returns
 returns c =
     take_gives c.holds-held.ensures c.in_default.ensures
-    (rw (c.place_size-size.ensures, c.from-places.ensures) at c.in-Some.ensures)
+    (rw (c.places-places.ensures.1, c.places-places.ensures.0) at c.in-Some.ensures)

@@ -1,14 +1,13 @@
 -- `controller::heard` meets its contract.
-use mathlib.Core.Path.{◌≡◌, ap}
+use mathlib.Core.Path.{refl}
 use native.Mathlib.Omega.{arith}
-use mathlib.Core.List.{List}
-use Prim.Native.Nat.{ℕ}
-use lib.ListN.{length, length-take}
-use Rattle.answers.specs.Held.{held}
+use Rattle.answers.proofs.Short.{event_short}
 use Rattle.controller.proofs.telling.heard.Goals as goal
 
-pub write_answer-written-requires : goal.write_answer-written-requires
-write_answer-written-requires g c =
-    let a = c.args.r.answer in
-    let none : length (held a.returned) ≡ 0 = ap (λ (l : List ℕ). length l) c.requires.alone in
-    record { holds = c.requires.holds; room = omega (arith, none, length-take a.then.len a.then.octets, c.requires.room) }
+pub write_event-written-requires : goal.write_event-written-requires
+write_event-written-requires g c = omega (arith, event_short c.args.r.answer.then, c.requires.room)
+
+-- before the event stands nothing
+pub returns : goal.returns
+returns g c =
+    record { number = refl; state = c.put-t.ensures; event = rw c.requires.alone c.write_event-written.ensures }

@@ -1,52 +1,55 @@
 -- `filters::differ::stands_before` meets its contract.
-use Rattle.std.proofs.Common.{◌≡◌, ◌*◌, drop, arith, refl, sym, ◌∙◌}
-use borrow.Author.Tests.{lt-ltb, le-ltb}
-use Rattle.filters.specs.Keys.{key_of}
-use Rattle.filters.proofs.Flat.{within, entry_found}
-use Rattle.filters.proofs.Identities.{seek_here, seek_on, seek_end, same_low, octets_drop}
-use Rattle.filters.proofs.differ.stands_before.Goals.{else-low_at-low-via-then-low_at-low+else-key_at-key}
-use Rattle.filters.proofs.differ.stands_before.Goals.{else-low_at-low-via-else-low_at-low}
+use Rattle.std.proofs.Common.{◌≡◌, length, refl, sym, ap, ◌∙◌, arith, rules}
+use lib.Seq.{take_all}
+use Rattle.lists.specs.Lists.{any, chunks}
+use Rattle.lists.proofs.Chunks.{length_chunks}
+use Rattle.filters.specs.Keys.{key_of, low_of}
+use Rattle.filters.proofs.Identities.{Octets}
+use Rattle.filters.proofs.Differing.{entry_at, entry_below, entry_met, stands_here, stands_not, low_other}
+use Rattle.filters.proofs.differ.stands_before.Goals.{else-low_of-low-via-then-low_of-low+else-key_of-key}
+use Rattle.filters.proofs.differ.stands_before.Goals.{else-low_of-low-via-else-low_of-low}
 use Rattle.filters.proofs.differ.stands_before.Goals as goal
 
-pub overflow_mul-place : goal.overflow_mul-place
-overflow_mul-place c = omega (arith, within c.args.width c.args.n c.loop-i.i c.loop-i-test.true)
+pub loop-other-init : goal.loop-other-init
+unfolding any
+loop-other-init g c = refl
 
-pub low_at-requires : goal.low_at-requires
-low_at-requires c = omega (arith, within c.args.width c.args.n c.loop-i.i c.loop-i-test.true)
-
-pub key_at-requires : goal.key_at-requires
-key_at-requires c = omega (arith, within c.args.width c.args.n c.loop-i.i c.loop-i-test.true)
-
-pub returns-then-key_at-key : goal.returns-then-key_at-key
-returns-then-key_at-key c =
+pub returns-then-key_of-key : goal.returns-then-key_of-key
+returns-then-key_of-key g c =
     let a = c.args in
-    let i = c.loop-i.i in
-    let found = seek_here a.width a.n a.octets.now c.requires.0 c.requires.1 _ c.loop-i.invariant c.key_at.ensures
-    c.if-key_at-key.true c.loop-i-test.true in
-    rw (← c.key_at-key.ensures)
-    (sym (lt-ltb i a.n c.loop-i-test.true) ∙ entry_found a.width a.n a.octets.now _ i found)
+    let w = g.row.W in
+    let l = a.octets.now in
+    let seven : length a.identity ≡ 7 = search rules in
+    let below : Octets a.identity = λ k. search rules in
+    let more = entry_below w a.n l c.entries-other-items.ensures c.loop-other-test.true in
+    let entry = entry_met w a.n l c.entries-other-items.ensures c.loop-other-test.true c.other-item.is in
+    stands_here w a.n l c.requires.0 c.requires.2 c.type_inv.octets a.identity seven below more
+    (ap key_of (sym entry) ∙ sym c.key_of.ensures ∙ c.if-key_of-key.true ∙ c.key_of-key.ensures)
 
-pub loop-i-preserved : goal.loop-i-preserved
-loop-i-preserved c =
+pub loop-other-preserved : goal.loop-other-preserved
+loop-other-preserved g c =
     let a = c.args in
-    let octets = a.octets.now in
-    let here = drop (c.loop-i.i * a.width) octets in
-    let there = drop a.at octets in
-    let other : key_of here ≡ c.key_at-key.result → ⊥ =
-    elim c.else-low_at-low.branch [
-      | else-low_at-low-via-then-low_at-low+else-key_at-key w ↦ λ e. w.if-key_at-key.false (w.key_at.ensures ∙ e)
-      | else-low_at-low-via-else-low_at-low w ↦ λ e.
-          let same = same_low here there (octets_drop _ octets c.type_inv.octets) (octets_drop a.at octets c.type_inv.octets)
-          (e ∙ c.key_at-key.ensures) in
-          w.if-low_at-low.false (c.low_at.ensures ∙ same ∙ sym c.low_at-low.ensures)
+    let w = g.row.W in
+    let l = a.octets.now in
+    let seven : length a.identity ≡ 7 = search rules in
+    let below : Octets a.identity = λ k. search rules in
+    let more = entry_below w a.n l c.entries-other-items.ensures c.loop-other-test.true in
+    let entry = entry_met w a.n l c.entries-other-items.ensures c.loop-other-test.true c.other-item.is in
+    let other : key_of (entry_at w a.n l c.loop-other.other-index) ≡ key_of a.identity → ⊥ =
+    elim c.else-low_of-low.branch [
+      | else-low_of-low-via-then-low_of-low+else-key_of-key m ↦ λ e.
+          m.if-key_of-key.false (m.key_of.ensures ∙ ap key_of entry ∙ e ∙ sym c.key_of-key.ensures)
+      | else-low_of-low-via-else-low_of-low m ↦
+          low_other w a.n l c.requires.0 c.requires.2 c.type_inv.octets a.identity seven below more
+          (λ e. m.if-low_of-low.false (c.low_of.ensures ∙ ap low_of entry ∙ e ∙ sym c.low_of-low.ensures))
     ] in
-    seek_on a.width a.n octets c.requires.0 c.requires.1 _ c.loop-i.invariant refl other c.loop-i-test.true
+    stands_not w a.n l c.requires.0 c.requires.2 c.type_inv.octets a.identity seven below more other c.loop-other.invariant
 
 pub returns : goal.returns
-returns c =
-    let a = c.args in
-    let i = c.loop-i.i in
-    let none = seek_end a.width a.n a.octets.now c.requires.0 c.requires.1 c.key_at-key.result i c.loop-i.invariant
-    c.loop-i-test.false in
-    rw (← c.key_at-key.ensures)
-    (sym (le-ltb i a.n c.loop-i-test.false) ∙ entry_found a.width a.n a.octets.now _ i none)
+returns g c =
+    let w = g.row.W in
+    let n = c.args.n in
+    let l = c.args.octets.now in
+    let count = ap length c.entries-other-items.ensures ∙ length_chunks w n l in
+    let all = take_all c.loop-other.other-index (chunks w n l) (omega (arith, count, length_chunks w n l)) in
+    sym (rw all at c.loop-other.invariant)

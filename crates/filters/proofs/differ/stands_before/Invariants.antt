@@ -1,8 +1,8 @@
--- `filters::differ::stands_before` meets its contract: the entries before the one at i have other keys.
-use Rattle.lists.specs.Lists.{keyed, chunks}
-use Rattle.lists.proofs.Search.{Searching}
-use Rattle.filters.specs.Keys.{key_of}
+-- `filters::differ::stands_before` meets its contract: none of the entries looked at has the identity.
+use Rattle.std.proofs.Common.{◌≡◌, false, take}
+use Rattle.lists.specs.Lists.{any, chunks}
+use Rattle.filters.specs.Filters.{has_identity}
 use Rattle.filters.proofs.differ.stands_before.Given as goal
 
-abbrev pub invariant-loop-i : goal.invariant-loop-i
-invariant-loop-i l = Searching (keyed key_of l.key) (chunks l.width l.n l.octets) l.i
+abbrev pub invariant-loop-other : goal.invariant-loop-other
+invariant-loop-other g l = any (has_identity l.fn.identity) (take l.other-index (chunks g.row.W l.n l.octets)) ≡ false

@@ -1,13 +1,19 @@
 -- `link::keys::long_term_key_reply` meets its contract.
-use mathlib.Core.Path.{refl}
+use Rattle.std.proofs.Common.{rules}
+use Rattle.commands.specs.Following.{encryption_change}
 use Rattle.commands.specs.Link.{long_term_key_reply}
-use Rattle.commands.proofs.Giving.{answered_then, gives_as}
 use Rattle.link.proofs.keys.long_term_key_reply.Goals as goal
 
-pub returns : goal.returns
+pub returns-in-Ok : goal.returns-in-Ok
 unfolding long_term_key_reply
-returns c k held =
-    gives_as
-    (c.key_reply.ensures _
-    (answered_then c.followed_by_encryption_change-answer.ensures c.done_handle-answer.ensures refl) k held)
-    (λ size pool. rw c.word_at-handle.ensures)
+returns-in-Ok c k held =
+    let event = encryption_change c.args.s.masks c.word_at-handle.result in
+    let replied = c.key_reply.ensures event k held in
+    search rules
+
+pub returns-in-Err : goal.returns-in-Err
+unfolding long_term_key_reply
+returns-in-Err c k held =
+    let event = encryption_change c.args.s.masks c.word_at-handle.result in
+    let replied = c.key_reply.ensures event k held in
+    search rules

@@ -1,9 +1,9 @@
 -- `links::change::open_connection` meets its contract.
 use Rattle.std.proofs.Common.{◌≤◌, length, arith}
 use lib.ListN.{length-take}
-use Rattle.links.specs.Links.{opened, new_connection}
+use Rattle.links.specs.Links.{opened}
 use Rattle.links.specs.Change.{away_from}
-use Rattle.links.proofs.Changing.{kept_few, room_left, pushed_lists, opened_view}
+use Rattle.links.proofs.Changing.{kept_few, room_left}
 use Rattle.links.proofs.change.open_connection.Goals as goal
 
 pub push_connection-requires : goal.push_connection-requires
@@ -14,9 +14,3 @@ push_connection-requires c =
     let room = room_left s.handle (opened s.links) c.requires.1 most in
     let fits = kept_few (away_from s.handle) s.links.waiting s.links.waiting_count in
     (omega (arith, e.count), omega (arith, e.waiting_count))
-
-pub returns-clause-viewed : goal.returns-clause-viewed
-returns-clause-viewed c =
-    let s = c.args in
-    let new = new_connection s.handle s.timing.interval s.timing.latency s.timing.timeout in
-    opened_view new s.links (pushed_lists new c.end_connection-rest.ensures.lists c.push_connection.ensures)

@@ -1,22 +1,17 @@
 -- `links::hold::handles_of` meets its contract.
-use Rattle.std.proofs.Common.{ℕ, List, true, ◌≡◌, ◌<◌, length, get_or, refl, arith, ◌∙◌, ap}
+use Rattle.std.proofs.Common.{ℕ, List, true, ◌≡◌, ◌<◌, length, get_or, arith, ◌∙◌, ap}
 use lib.Seq.{get_or-take, length-take-le}
 use borrow.Author.Tests.{lt-ltb}
-use Rattle.lists.specs.Lists.{all}
 use Rattle.links.specs.declared.Connection.{Connection}
 use Rattle.links.specs.Holding.{handle_of}
 use Rattle.links.specs.Gather.{is_handle}
 use Rattle.lists.proofs.Prefix.{all_more}
-use Rattle.links.proofs.Gather.{gather_start, gather_more}
+use Rattle.links.proofs.Gather.{gather_more}
 use Rattle.links.proofs.hold.handles_of.Goals as goal
 
 handle_small : (x : ℕ) (cs : List Connection) (i : ℕ) (d : Connection) → x ≡ (get_or cs i d).handle → x < 65536
     → is_handle (get_or cs i d) ≡ true
 handle_small x cs i d e h = lt-ltb _ _ (rw (← e) h)
-
-pub loop-i-init : goal.loop-i-init
-unfolding all
-loop-i-init c = (gather_start c.args.connections.now (omega arith), refl)
 
 pub loop-i-preserved : goal.loop-i-preserved
 loop-i-preserved c =

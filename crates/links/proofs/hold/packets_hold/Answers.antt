@@ -29,7 +29,7 @@ returns-then-met-place c =
           λ k cs e. rw (rw whole at fails)
       | then-met-place-via-else-met-place+then-not-packet_holds w ↦ λ k cs e.
           let no = sym (w.packet_holds.ensures k cs e) ∙ w.if-not-packet_holds.true in
-          let fails = all_not (packet_holds s.places s.size (take k cs)) xs (length xs) l.w-index _ no (omega arith)
+          let fails = all_not (packet_holds s.places.count s.places.size (take k cs)) xs (length xs) l.w-index _ no (omega arith)
           (omega arith) in
           rw (rw whole at fails) (sym (and-false (distinct place_of xs)))
     ]
@@ -47,7 +47,7 @@ loop-w-preserved c =
       marks = marks_more 256 place_of l.met xs l.w-index _ inv.marks inv.long (search rules) (omega arith);
       differ = differ_more place_of xs l.w-index _ inv.differ new (omega arith);
       hold = λ k cs e.
-          all_more (packet_holds s.places s.size (take k cs)) xs l.w-index _ (inv.hold k cs e)
+          all_more (packet_holds s.places.count s.places.size (take k cs)) xs l.w-index _ (inv.hold k cs e)
           (sym (c.packet_holds.ensures k cs e) ∙ c.if-not-packet_holds.false) (omega arith);
     })
 

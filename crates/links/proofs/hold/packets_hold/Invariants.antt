@@ -14,5 +14,5 @@ invariant-loop-w l = record {
   marks : Marks 256 place_of l.met (take l.w-index l.waiting);
   differ : distinct place_of (take l.w-index l.waiting) ≡ true;
   hold : (k : ℕ) (cs : List Connection) → l.handles ≡ gathered k cs
-      → all (packet_holds l.places l.size (take k cs)) (take l.w-index l.waiting) ≡ true;
+      → all (packet_holds l.places.count l.places.size (take k cs)) (take l.w-index l.waiting) ≡ true;
 }

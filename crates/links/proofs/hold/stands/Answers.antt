@@ -1,13 +1,9 @@
 -- `links::hold::stands` meets its contract.
-use Rattle.std.proofs.Common.{refl, sym, arith}
-use Rattle.lists.specs.Lists.{any, keyed}
+use Rattle.std.proofs.Common.{sym, arith}
+use Rattle.lists.specs.Lists.{keyed}
 use Rattle.links.specs.Gather.{itself}
 use Rattle.lists.proofs.Prefix.{any_more}
 use Rattle.links.proofs.hold.stands.Goals as goal
-
-pub loop-y-init : goal.loop-y-init
-unfolding any
-loop-y-init c = refl
 
 pub loop-y-preserved : goal.loop-y-preserved
 loop-y-preserved c =

@@ -1,12 +1,9 @@
 -- `links::look::free_handle` meets its contract.
-use Rattle.std.proofs.Common.{◌≡◌, refl, sym, ◌∙◌, ◌+◌, ◌-◌, take, arith}
+use Rattle.std.proofs.Common.{◌≡◌, sym, ◌∙◌, ◌+◌, ◌-◌, take, arith}
 use Rattle.links.specs.Links.{opened, free_handle}
 use Rattle.links.proofs.Looking.{free_here, free_next, free_end}
 use Rattle.links.proofs.Gather.{stands_has}
 use Rattle.links.proofs.look.free_handle.Goals as goal
-
-pub loop-h-init : goal.loop-h-init
-loop-h-init c = λ k cs e. refl
 
 pub returns-then-not-stands : goal.returns-then-not-stands
 returns-then-not-stands c =

@@ -10,4 +10,4 @@ unfolding peer_update
 returns c k held =
     let t = c.args.timing in
     gives_changed c.args.handle (with_parameters t.interval t.latency t.timeout) (λ x. refl) c.set_parameters.ensures
-    (answered_then c.followed_by_update.ensures c.silent.ensures refl) (λ size pool. search rules) held
+    (answered_then c.followed_by_update.ensures c.silent.ensures) (λ size pool. search rules) held

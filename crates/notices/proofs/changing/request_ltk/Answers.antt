@@ -9,4 +9,4 @@ pub returns : goal.returns
 unfolding request_ltk
 returns c k held =
     gives_changed c.args.handle (with_ltk_requested 1) (λ x. refl) c.set_ltk_requested.ensures
-    (answered_then c.followed_by_le.ensures c.silent-answer.ensures refl) (λ size pool. search rules) held
+    (answered_then c.followed_by_le.ensures c.silent-answer.ensures) (λ size pool. search rules) held

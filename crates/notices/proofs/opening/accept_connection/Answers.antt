@@ -1,5 +1,5 @@
 -- `notices::opening::accept_connection` meets its contract.
-use Rattle.std.proofs.Common.{rules, refl}
+use Rattle.std.proofs.Common.{rules}
 use Rattle.links.specs.Links.{new_connection, opened_last}
 use Rattle.links.proofs.Keeping.{opened_holds}
 use Rattle.commands.proofs.Giving.{answered_then}
@@ -12,7 +12,7 @@ unfolding accept_connection
 returns c k held =
     let t = c.args.timing in
     let new = new_connection c.args.handle t.interval t.latency t.timeout in
-    let told = answered_then c.followed_by_connection_complete.ensures c.silent-silent.ensures refl in
+    let told = answered_then c.followed_by_connection_complete.ensures c.silent-silent.ensures in
     gives_links (opened_last new) c.open_connection-accepted.ensures.viewed
     (opened_holds c.args.s.links held.links new c.requires.1 c.open_connection-accepted.ensures.lists)
     told (λ size pool. search rules) (off_holds held)

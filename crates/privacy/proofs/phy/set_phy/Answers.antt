@@ -12,9 +12,9 @@ unfolding set_phy
 returns c k held =
     let all = octet c.args.p.now 2 in
     let sends : c.pick_phy-tx.result ≡ phy_picked c.args.profile (any_sending all) (octet c.args.p.now 3) c.in-Some.c.tx_phy =
-    picked _ _ _ _ _ c.preferred.ensures c.pick_phy-tx.ensures in
+    picked _ _ _ _ _ c.sending.ensures c.pick_phy-tx.ensures in
     let receives : c.pick_phy-rx.result
     ≡ phy_picked c.args.profile (any_receiving all) (octet c.args.p.now 4) c.in-Some.c.rx_phy =
-    picked _ _ _ _ _ c.preferred-2.ensures c.pick_phy-rx.ensures in
+    picked _ _ _ _ _ c.receiving.ensures c.pick_phy-rx.ensures in
     gives_changed c.word_at-handle.result (with_phys c.pick_phy-tx.result c.pick_phy-rx.result) (λ c. refl) c.set_phys.ensures
-    (answered_then c.followed_by_le.ensures c.status-status.ensures refl) (λ size pool. search rules) held
+    (answered_then c.followed_by_le.ensures c.status-status.ensures) (λ size pool. search rules) held

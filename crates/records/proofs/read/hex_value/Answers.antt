@@ -6,8 +6,8 @@ use Rattle.records.proofs.read.hex_value.Goals as goal
 pub returns-in-48-to-57 : goal.returns-in-48-to-57
 returns-in-48-to-57 c = digit_decimal _ (omega arith) (omega arith)
 
-pub returns-in-97-to-255 : goal.returns-in-97-to-255
-returns-in-97-to-255 c = digit_letter _ (omega arith) (omega arith)
+pub returns-in-97-to-102 : goal.returns-in-97-to-102
+returns-in-97-to-102 c = digit_letter _ (omega arith) (omega arith)
 
 pub returns-in_default : goal.returns-in_default
 returns-in_default c = digit_below _ (omega arith)

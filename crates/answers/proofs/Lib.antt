@@ -1,0 +1,2 @@
+-- What an answer holds is short.
+pub mod Short
