@@ -1,7 +1,7 @@
 // AES-128 by FIPS 197: the cipher and its key expansion. specs/Field.antt and specs/Aes.antt say what they are.
 //
-// The two exported functions make the S-box once and lend it down. Rows are put together by literals of four: a closure that
-// gives a row needs a clause of its own, which is longer. Words and rounds are counted, since their definitions are by number.
+// The two exported functions make the S-box once and lend it down. Rows and words are put together by literals of four: a closure
+// that gives a row needs a clause of its own, which is longer. Words and rounds are counted: their definitions are by number.
 #![tactic(auto)]
 
 mod sbox;

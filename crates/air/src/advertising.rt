@@ -60,11 +60,9 @@ fn load_of(p: &[u8; 32]) -> Result<&[u8], ErrorCode>
         (λ load. (octet p.now 0 ≤ 31) × (load.now ≡ take (octet p.now 0) (drop 1 p.now)))
         (λ code. (31 < octet p.now 0) × (code ≡ error.InvalidParameters)) }
 {
-    let data_len = usize::from(p[0]);
-    if data_len > 31 {
-        return Err(ErrorCode::InvalidParameters);
-    }
-    Ok(&p[1..1 + data_len])
+    p[1..]
+        .get(..usize::from(p[0]))
+        .ok_or(ErrorCode::InvalidParameters)
 }
 
 // LE Set Advertising Data (section 7.8.7).

@@ -103,6 +103,13 @@ pub fn followed_by(answer: Answer, event: &[u8]) -> Answer
     }
 }
 
+// The same answer with no event behind it.
+pub fn followed_by_none(answer: Answer) -> Answer
+    ensures { Follows [] answer result }
+{
+    alone(answer.acknowledgement)
+}
+
 // How many octets a writer says it wrote.
 fn counted(written: Result<usize, WriteError>) -> usize
     ensures { result ≡ count written }

@@ -3,34 +3,30 @@
 // What a line asks for and what is printed for it is the crate `records`.
 #![tactic(auto)]
 
-ghost use Rattle.std.specs.Prelude.{◌≤◌};
-
+use lists::Held;
 use records::Unit;
 use std::io;
 use std::io::Read;
 
-// Between two parts of the input: the unit, the buffer of a line with how many octets at its front are held, and a buffer for the
-// octets of a packet. The unit's state always holds together, also where a read or a write has failed. The line is in an array
-// and no Vec: with one, the program would assume the C library's heap (7 axioms and not 4).
+// Between two parts of the input: the unit, the octets of a line that are held, and a buffer for the octets of a packet. The
+// unit's state always holds together, also where a read or a write has failed. The line is no Vec: with one, the program would
+// assume the C library's heap (7 axioms and not 4).
 #[derive(Drop)]
 struct Bench {
     unit: Unit,
-    line: [u8; 2050],
-    held: usize,
+    line: Held<u8, 2050>,
     packet: [u8; 1024],
-    ghost fits: { held ≤ 2050 },
 }
 
 fn main(rt: HostRuntime) -> io::Result<()> {
     println!(rt; "H\t1")?;
     let mut bench = Bench {
         unit: Unit::new(),
-        line: [0; 2050],
-        held: 0,
+        line: Held::new(),
         packet: [0; 1024],
     };
     let goes_on = bench.on_input(&rt, &mut rt.stdin())?;
-    if goes_on && bench.held > 0 {
+    if goes_on && bench.line.len() > 0 {
         bench.on_line(&rt)?;
     }
     Ok(())
@@ -74,18 +70,17 @@ impl Bench {
 
     // Octets with no newline, behind those of the line that are held. A line of more than 2,050 octets is no record.
     fn hold(&mut self, octets: &[u8]) -> bool {
-        if octets.len() > 2050 - self.held {
+        if octets.len() > 2050 - self.line.len() {
             return false;
         }
-        self.held = octets::put(&mut self.line, self.held, octets);
+        self.line.extend(octets);
         true
     }
 
     // The octets that are held are a line: its answer is printed, and nothing is held.
     fn on_line(&mut self, rt: &impl Print) -> io::Result<bool> {
-        let line = &self.line[..self.held];
-        let answer = self.unit.step(line, &mut self.packet);
-        self.held = 0;
+        let answer = self.unit.step(self.line.as_slice(), &mut self.packet);
+        self.line.clear();
         let Some(text) = answer else {
             return Ok(false);
         };

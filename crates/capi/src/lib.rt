@@ -1,8 +1,8 @@
-// Calls for C, Rust and whoever else links an archive, of what stands beside the controller: the readers and writers of
-// `hci`, the stream of `h4`, and AES. Each hands its arguments on to the Rattle function of the same work and promises the
-// same; `capi_c` exports them, since a static library exports its own functions alone, `controller_c` the calls that take a
-// state. For firmware; `embed/wegrulsta.h` declares them.
-// Contracts cite those of `hci`, `h4` and `aes`, and `specs/` where an answer has another form.
+// Calls for C, Rust and whoever else links an archive, of what stands beside the controller: the readers and writers of `hci`,
+// the stream of `h4`, and AES. Each hands its arguments on to the Rattle function of the same work and promises the same;
+// `capi_c` exports them, `controller_c` the calls that take a state: a crate is a library for Rattle or one for C, and these
+// calls are both. For firmware; `embed/wegrulsta.h` declares them. Contracts cite those of `hci`, `h4` and `aes`, and `specs/`
+// where an answer has another form.
 #![tactic(auto)]
 
 mod cipher;

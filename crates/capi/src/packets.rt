@@ -62,12 +62,9 @@ impl From<Result<usize, WriteError>> for Wrote {
     ghost from_gives = { λ answer r. (r.number ≡ write.number answer) × (r.written ≡ write.count answer) };
 
     fn from(answer: Result<usize, WriteError>) -> Wrote {
-        match answer {
-            Ok(written) => Wrote { number: 0, written },
-            Err(e) => Wrote {
-                number: e.into(),
-                written: 0,
-            },
+        Wrote {
+            number: hci::number_of(answer),
+            written: answer.unwrap_or(0),
         }
     }
 }
@@ -201,12 +198,9 @@ impl From<Result<bool, MaskError>> for MaskHas {
     ghost from_gives = { λ answer r. (r.number ≡ bits.number answer) × (r.has ≡ bits.says answer) };
 
     fn from(answer: Result<bool, MaskError>) -> MaskHas {
-        match answer {
-            Ok(has) => MaskHas { number: 0, has },
-            Err(e) => MaskHas {
-                number: e.into(),
-                has: false,
-            },
+        MaskHas {
+            number: hci::number_of(answer),
+            has: answer.unwrap_or(false),
         }
     }
 }

@@ -46,10 +46,7 @@ pub fn followed_by_le(answer: Answer, masks: Masks, subevent: u8, params: &[u8])
     if masks.enables_le(subevent) {
         return followed_by_subevent(answer, subevent, params);
     }
-    Answer {
-        then: None,
-        ..answer
-    }
+    answers::followed_by_none(answer)
 }
 
 // The three parameters of a link as events have them: two octets each.
@@ -91,10 +88,7 @@ pub fn followed_by_encryption_change(answer: Answer, masks: Masks, handle: u16) 
     if masks.enables(mask::ENCRYPTION_CHANGE) {
         return followed_by_event(answer, ENCRYPTION_CHANGE, &[SUCCESS, low, high, 0x01]);
     }
-    Answer {
-        then: None,
-        ..answer
-    }
+    answers::followed_by_none(answer)
 }
 
 // The parameters of LE Connection Complete, in the parts of which each of its forms is made.

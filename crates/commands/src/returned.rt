@@ -7,15 +7,16 @@ ghost use Rattle.commands.specs.Outcome.{Answers};
 
 use answers::Answer;
 use hci::status::SUCCESS;
+use lists::Held;
 
 // The octets of head, and those of body behind them.
-pub fn returned(head: &[u8], body: &[u8]) -> Answer
+pub(crate) fn returned(head: &[u8], body: &[u8]) -> Answer
     requires { length head.now + length body.now ≤ 65 }
     ensures { Answers (complete (head.now ++ body.now)) result }
 {
-    let mut all = [0; 65];
-    let n = octets::put_two(&mut all, 0, head, body);
-    answers::complete(&all[..n])
+    let mut octets: Held<u8, 65> = Held::from_slice(head);
+    octets.extend(body);
+    answers::complete(octets.as_slice())
 }
 
 // Success, and these octets behind it.

@@ -1,7 +1,7 @@
 // The table of opcodes and of how many parameter octets each takes (`param_len` of the source), in the order of the tables of
 // `specs/Table.antt`. Columns and no array of rows: `hci::first_opcode` looks through opcodes that stand side by side, as it does
 // for a profile's, which C hands over so. The part that each command changes is a third column, `PARTS` of `dispatch`.
-ghost use Rattle.std.specs.Prelude.{◌≡◌, ◌==◌, true, cond, eqb, get_or, position};
+ghost use Rattle.std.specs.Prelude.{◌≡◌, ◌==◌, get_or, position};
 ghost use Rattle.commands.specs.Table.{opcodes, rows, no_row};
 ghost use Rattle.commands.specs.Table.{fits as size_fits};
 
@@ -33,14 +33,7 @@ pub fn place_of(op: u16) -> Option<usize>
 pub fn fits(place: usize, n: usize) -> bool
     ensures { result ≡ size_fits (get_or rows place no_row).size n }
 {
-    match SIZES.get(place) {
-        Some(size) => size_fits(*size, n),
-        None => false,
-    }
-}
-
-fn size_fits(size: u16, n: usize) -> bool
-    ensures { result ≡ cond (eqb size 256) true (eqb n size) }
-{
-    size == 256 || n == usize::from(size)
+    SIZES
+        .get(place)
+        .is_some_and(|size| *size == 256 || n == usize::from(*size))
 }

@@ -60,7 +60,7 @@ module _ {f : Model → Outcome} {k : ControllerRow} {s t : Controller} {a : Ans
 
   pub can_tell : {out : List ℕ} → ((m : Model) → Alone (f m)) → 71 ≤ length out → CanTell a out
   can_tell quiet room = record {
-    alone = ap (λ (x : AnswerModel). x.form) (answered 0 [] ∙ (quiet (view s 0 [])).silent);
+    alone = ap (λ (x : AnswerModel). x.octets) (answered 0 [] ∙ (quiet (view s 0 [])).silent);
     room = room;
   }
 

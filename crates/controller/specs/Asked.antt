@@ -5,7 +5,7 @@ use Rattle.std.specs.Prelude.{◌≡◌, ℕ, ◌*◌, ◌≤◌, List, [], ◌�
 use Rattle.profile.specs.declared.ControllerRow.{ControllerRow}
 use Rattle.profile.specs.Profile.{within_limits, rows_fit}
 use Rattle.answers.specs.declared.Answer.{Answer}
-use Rattle.answers.specs.Answers.{Silent, answer_of}
+use Rattle.answers.specs.Answers.{answer_of}
 use Rattle.state.specs.Holding.{place_size}
 use Rattle.state.specs.declared.Controller.{Controller}
 use Rattle.calls.specs.Calls.{Question, first_no}
@@ -52,7 +52,7 @@ about_packet k opcodes answers bits holds pool room =
 
 -- a notice's answer: no acknowledgement, an event of at most 37 octets behind it, and a buffer that question 5 was asked of
 pub record CanTell (a : Answer) (out : List ℕ) : Type 0 where
-  pub alone : (answer_of a).form ≡ Silent
+  pub alone : (answer_of a).octets ≡ []
   pub room : 71 ≤ length out
 
 -- what receiving a packet counts on: questions 1 to 5 were answered

@@ -6,13 +6,15 @@ ghost use Rattle.controller.specs.Asked.{CanTell};
 
 use crate::Told;
 use crate::refusal::ACCEPTED;
+use answers::Acknowledgement;
 use commands::{Answered, StatePart};
 use state::Controller;
 
 // The state with what the notice changed, and its event, if it has one, written to the front of out. A notice has no
-// acknowledgement, so the event alone is written. The state is put together before the event is written (docs/SPEED.md). Each
-// notice asks its questions itself: in one function that asks and runs the notice as a closure the state is copied once more, and
-// calls take 1 to 28 % more instructions, of those without a buffer 11 to 18 %.
+// acknowledgement, so there is no opcode, and its event is written from the answer as it stands; the second arm is for an
+// acknowledgement of no octets, which `CanTell` does not rule out. The state is put together before the event is written
+// (docs/SPEED.md). Each notice asks its questions itself: in one function that asks and runs the notice as a closure the state is
+// copied once more, and calls take 1 to 28 % more instructions, of those without a buffer 11 to 18 %.
 pub fn heard<P: StatePart>(s: Controller, r: Answered<P>, out: &mut [u8]) -> Told
     requires { CanTell r.answer out.old }
     ensures number { result.number ≡ 0 }
@@ -20,7 +22,10 @@ pub fn heard<P: StatePart>(s: Controller, r: Answered<P>, out: &mut [u8]) -> Tol
     ensures event { Put out.old 0 (octets_of 0 0 (answer_of r.answer)) result.written out.new }
 {
     let t = r.part.put(s);
-    let written = answers::write_event(&r.answer, 0, out);
+    let written = match r.answer.acknowledgement {
+        Acknowledgement::Silent => answers::write_event(&r.answer, 0, out),
+        _ => answers::write_answer(r.answer, 0, 0, out),
+    };
     Told {
         number: ACCEPTED,
         state: t,

@@ -22,6 +22,12 @@ use Rattle.octets.proofs.Writing.{put_part}
 use Rattle.filters.specs.Filters.{with_mode}
 use Rattle.filters.specs.Keys.{without_place}
 
+-- the place that a search finds is one of the list
+pub place_within : (p : List ℕ → Bool) (xs : List (List ℕ)) (o : Option ℕ) → o ≡ position p xs
+    → IfSome o (λ place. place < length xs)
+place_within p xs None e = tt
+place_within p xs (Some i) e = (position_some p xs i (sym e)).1
+
 module _ (w : ℕ) where
   -- ---- where entries stand: the one at i ends within the first n, and the next begins behind it
   pub within : (n i : ℕ) → i < n → i * w + w ≤ n * w
@@ -47,10 +53,6 @@ module _ (w : ℕ) where
     -- what a search answers
     pub entry_place : (i : ℕ) → position p (chunks w n l) ≡ Some i → (i ≡ first_at p (chunks w n l)) × (i < n)
     entry_place i e = rw length_chunks at (position_some p (chunks w n l) i e)
-
-    pub place_within : (o : Option ℕ) → o ≡ position p (chunks w n l) → IfSome o (λ place. place < n)
-    place_within None e = tt
-    place_within (Some i) e = (entry_place i (sym e)).1
 
     pub entry_none : position p (chunks w n l) ≡ None → length (chunks w n l) ≤ first_at p (chunks w n l)
     entry_none e = position_none p (chunks w n l) e

@@ -52,7 +52,7 @@ accept_count a = length_chunks 7 a.count a.octets
 
 pub accept_seven : (a : AcceptList) (i : ℕ) → i < a.count → a.count * 7 ≤ length a.octets
     → length (get_or (accept_entries a) i []) ≡ 7
-accept_seven a i h fits = entry_length 7 a.count a.octets (omega arith) fits i h
+accept_seven a i h fits = entry_length 7 a.count a.octets fits i h
 
 pub accept_entry_seven : (p : List ℕ) → length p ≡ 7 → length (accept_entry p) ≡ 7
 unfolding accept_entry
@@ -110,7 +110,7 @@ resolving_count r = length_chunks 8 r.count r.octets
 
 pub resolving_eight : (r : ResolvingList) (i : ℕ) → i < r.count → r.count * 8 ≤ length r.octets
     → length (get_or (resolving_entries r) i []) ≡ 8
-resolving_eight r i h fits = entry_length 8 r.count r.octets (omega arith) fits i h
+resolving_eight r i h fits = entry_length 8 r.count r.octets fits i h
 
 module _ (identity : List ℕ) (l : List (List ℕ)) where
   -- appended, where the search did not find it

@@ -1,5 +1,5 @@
 // The accept list (Core Vol 4 Part E sections 7.8.15 to 7.8.17): entries of a type and an address, oldest first.
-ghost use Rattle.std.specs.Prelude.{◌≡◌, [], ◌≤◌, true, false, MatchOption};
+ghost use Rattle.std.specs.Prelude.{◌≡◌, [], ◌≤◌, length, true, false, MatchOption};
 ghost use Rattle.filters.specs.Filters.{accept_entries, accept_entry, contains_entry, added, is_full, removed, entries_differ};
 
 use crate::differ::entries_differ;
@@ -24,12 +24,21 @@ impl AcceptList {
         }
     }
 
+    // The entries, oldest first.
+    pub fn entries(&self) -> &[[u8; 7]]
+        requires { self.now.count ≤ 32 }
+        ensures list { result.now ≡ accept_entries self.now }
+        ensures count { length result.now ≡ self.now.count }
+    {
+        &self.octets.as_chunks().0[..self.count]
+    }
+
     // Whether the entry is on the list.
     pub fn contains(self, entry: [u8; 7]) -> bool
         requires { self.count ≤ 32 }
         ensures { result ≡ contains_entry entry (accept_entries self) }
     {
-        place_of::<7>(&self.octets, self.count, entry).is_some()
+        place_of(self.entries(), entry).is_some()
     }
 
     // Adds an entry: one that is present stays as it is, also where the list is full. None where it is full without it.
@@ -59,14 +68,14 @@ impl AcceptList {
         requires { self.count ≤ 32 }
         ensures { accept_entries result ≡ removed entry (accept_entries self) }
     {
-        let mut octets = self.octets;
-        let mut n = self.count;
+        let mut list = self;
         // The source takes out every equal entry, so a search follows each cut, over what is left.
-        while let Some(place) = place_of::<7>(&octets, n, entry) {
-            cut(&mut octets, 7, n, place);
-            n -= 1;
+        while let Some(place) = place_of(list.entries(), entry) {
+            let n = list.count;
+            cut(&mut list.octets, 7, n, place);
+            list.count = n - 1;
         }
-        AcceptList { octets, count: n }
+        list
     }
 }
 
@@ -86,5 +95,5 @@ pub fn accept_entries_differ(list: AcceptList) -> bool
     requires { list.count ≤ 32 }
     ensures { result ≡ entries_differ (accept_entries list) }
 {
-    list.count < 2 || entries_differ::<7>(&list.octets, list.count)
+    list.count < 2 || entries_differ(list.entries())
 }

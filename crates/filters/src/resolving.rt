@@ -26,12 +26,21 @@ impl ResolvingList {
         }
     }
 
+    // The entries, oldest first.
+    pub fn entries(&self) -> &[[u8; 8]]
+        requires { self.now.count ≤ 16 }
+        ensures list { result.now ≡ resolving_entries self.now }
+        ensures count { length result.now ≡ self.now.count }
+    {
+        &self.octets.as_chunks().0[..self.count]
+    }
+
     // The place of the entry with this identity.
     pub fn position(self, identity: [u8; 7]) -> Option<usize>
         requires { self.count ≤ 16 }
         ensures { result ≡ position (has_identity identity) (resolving_entries self) }
     {
-        place_of::<8>(&self.octets, self.count, identity)
+        place_of(self.entries(), identity)
     }
 
     // Appends an identity with mode 0.
@@ -55,7 +64,8 @@ impl ResolvingList {
     {
         let mut octets = self.octets;
         let n = self.count;
-        let Some(place) = place_of::<8>(&octets, n, identity) else {
+        // Here and in `set_mode` not by `entries`: the list, borrowed, is copied once more, at 32 to 41 instructions.
+        let Some(place) = place_of(&octets.as_chunks::<8>().0[..n], identity) else {
             return self;
         };
         cut(&mut octets, 8, n, place);
@@ -72,7 +82,7 @@ impl ResolvingList {
     {
         let mut octets = self.octets;
         let n = self.count;
-        let Some(place) = place_of::<8>(&octets, n, identity) else {
+        let Some(place) = place_of(&octets.as_chunks::<8>().0[..n], identity) else {
             return self;
         };
         octets[place * 8 + 7] = mode;
@@ -93,5 +103,5 @@ pub fn identities_differ(list: ResolvingList) -> bool
     requires { list.count ≤ 16 }
     ensures { result ≡ identities_differ (resolving_entries list) }
 {
-    list.count < 2 || entries_differ::<8>(&list.octets, list.count)
+    list.count < 2 || entries_differ(list.entries())
 }

@@ -93,8 +93,8 @@ impl H4Stream {
     }
 
     // Appends bytes to the octets that wait, which move to the front of the buffer over the packets handed out before, and
-    // frames them: the first so many octets of the buffer are whole packets, end to end and oldest first. Where an indicator is
-    // not defined, all of them wait; where the buffer has no room for them, nothing has changed.
+    // frames them. The answer is how many octets at the front of the buffer are whole packets, end to end and oldest first. Where
+    // an indicator is not defined, all octets wait; where the buffer has no room for them, nothing has changed.
     pub fn feed(&mut self, buffer: &mut [u8], bytes: &[u8]) -> Result<usize, StreamError>
         ensures { Feeds self.old buffer.old bytes.now result self.new buffer.new }
     {

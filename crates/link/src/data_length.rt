@@ -47,7 +47,8 @@ impl DataLength {
     }
 }
 
-// The parameters of LE Data Length Change (section 7.7.65.7): the greatest are those of receiving too.
+// The parameters of LE Data Length Change (section 7.7.65.7): what is sent is what the link now has, what is received the
+// profile's greatest.
 fn change_params(handle: u16, sent: DataLength, received: DataLength) -> [[u8; 2]; 5]
     ensures { flat_map (λ x. x) result
         ≡ le 2 handle ++ le 2 sent.octets ++ le 2 sent.time ++ le 2 received.octets ++ le 2 received.time }

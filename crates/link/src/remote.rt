@@ -40,11 +40,13 @@ pub fn read_remote_features(
     if !links::has(links, handle) {
         return answers::status(UNKNOWN_CONNECTION);
     }
-    let [low, high] = handle.to_le_bytes();
-    let f = profile.le_features.to_le_bytes();
-    let params = [
-        SUCCESS, low, high, f[0], f[1], f[2], f[3], f[4], f[5], f[6], f[7],
-    ];
+    let mut params = [SUCCESS; 11];
+    octets::put_two(
+        &mut params,
+        1,
+        &handle.to_le_bytes(),
+        &profile.le_features.to_le_bytes(),
+    );
     let answer = answers::status(SUCCESS);
     commands::followed_by_le(answer, masks, READ_REMOTE_FEATURES_COMPLETE, &params)
 }

@@ -10,8 +10,7 @@ ghost use Rattle.links.specs.Gather.{Gathers, gathered, times_in, itself, packet
 use crate::{Connection, Links, Places, Waiting};
 
 // The handles of the first n connections. At each later index stands a number that is no handle, another at each. The array and
-// n, not a slice of it: what is gathered (specs/Gather) is told of all sixteen places. By index, since each handle goes to the
-// place of its connection.
+// n, not a slice of it: what is gathered (specs/Gather) is told of all sixteen places.
 #[tactic(auto, unfolding(lists::specs::Lists::all), using(crate::proofs::Gather::gather_start))]
 pub fn handles_of(connections: &[Connection; 16], n: usize) -> [u32; 16]
     requires { n ≤ 16 }

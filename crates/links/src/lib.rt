@@ -1,8 +1,8 @@
 // The controller's links: sixteen connection places beside their count, one queue of the packets that wait in all links, and
 // the number of packets in flight. The packets' octets lie in a pool that the caller lends (crate `transmit`). For the
 // controller's commands, notices and question 3. Contracts cite `specs/`. C hands the links in, any octets as a state: so they
-// are arrays beside counts, PHYs and a yes or no are octets, and that the counts fit (`CountsFit`) stands in contracts and not in
-// a type; question 3 finds it out.
+// are arrays beside counts, and PHYs and a yes or no are octets. Question 3 finds out that the counts fit (`CountsFit`), and
+// contracts ask for it: a type that carried it would be a copy of the links at every call (docs/SPEED.md).
 #![tactic(auto)]
 
 ghost use Rattle.std.specs.Prelude.{◌≡◌, ◌≤◌, []};

@@ -39,10 +39,7 @@ pub fn terminating(links: Links, handle: u16) -> Option<u8>
     ensures { result ≡ terminating_of handle (opened links) }
 {
     let c = connection_of(links, handle)?;
-    if c.terminating == 0 {
-        return None;
-    }
-    Some(c.terminating)
+    (c.terminating != 0).then_some(c.terminating)
 }
 
 // The lowest handle from 1 that no link has (Core Vol 4 Part E section 5.3).

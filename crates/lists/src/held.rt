@@ -47,6 +47,13 @@ impl<T: Copy + Default, const N: usize> Held<T, N> {
         held
     }
 
+    // Lets go of the items.
+    pub fn clear(&mut self)
+        ensures { held self.new ≡ [] }
+    {
+        self.len = 0;
+    }
+
     // One item more, which is the last.
     pub fn push(&mut self, item: T)
         requires { length (held self.old) < N }

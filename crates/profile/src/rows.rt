@@ -63,7 +63,8 @@ pub fn row_bitmap(answers: &[u8], bits: &[u16]) -> [u8; 64]
 {
     let mut map = [0u8; 64];
     for (answer, bit) in answers.iter().zip(bits) {
-        // 2 is the answer of an unknown command.
+        // 2 is the answer of an unknown command. A number and no `Answering`: these may be any octets, also of rows that don't
+        // fit.
         if *answer != 2 {
             set_row_bit(&mut map, *bit);
         }

@@ -133,7 +133,7 @@ pub fn data(s: Controller, profile: ControllerRow, pool: &mut [u8], packet: &[u8
         return dropped(s);
     }
     let n = usize::from(header.len) + 5;
-    let waiting = transmit::enqueue(links, pool, places, header.handle, packet, n);
+    let waiting = transmit::enqueue(links, pool, places, header.handle, &packet[..n]);
     let mut after = links;
     after.waiting = waiting;
     after.waiting_count = links.waiting_count + 1;

@@ -121,74 +121,72 @@ last_no l h =
 -- ---- a number and a tab
 
 -- the first field is a number, and another follows
-pub record Headed (l : List ℕ) (n i : ℕ) : Type 0 where
-  pub within : i ≤ length l
+pub record Headed (l : List ℕ) (n : ℕ) (more : List ℕ) : Type 0 where
   pub field : List ℕ
-  pub is : fields l ≡ field ∷ fields (drop i l)
+  pub is : fields l ≡ field ∷ fields more
   pub number : is_number field ≡ true
   pub value : decimal 0 field ≡ n
 
 -- by what the first field says: a number, or none
-followed_yes : (m : Option ℕ) (i k n : ℕ) → Some (n, i) ≡ followed m k → (m ≡ Some n) × (i ≡ k)
-followed_yes (Some x) i k n e = let same = some_pair_parts n x i k e in (ap Some (sym same.0), same.1)
-followed_yes None i k n e = absurd (none-some (n, i) (sym e))
+followed_yes : (m : Option ℕ) (k more : List ℕ) (n : ℕ) → followed m k ≡ Some (n, more) → (m ≡ Some n) × (k ≡ more)
+followed_yes (Some x) k more n e = let same = some_pair_parts x n k more e in (ap Some same.0, same.1)
+followed_yes None k more n e = absurd (none-some (n, more) e)
 
-pub head_yes : (l : List ℕ) (n i : ℕ) → Some (n, i) ≡ first_of l → Headed l n i
+pub head_yes : (l : List ℕ) (n : ℕ) (more : List ℕ) → first_of l ≡ Some (n, more) → Headed l n more
 unfolding first_of
-head_yes l n i h =
+head_yes l n more h =
     let k = first_at is_tab l in
     cases (ltb k (length l))
     (λ e.
     let t : k < length l = ltb-true k (length l) e in
-    let m = followed_yes (number_of (take k l)) i (k + 1) n (rw e at h) in
+    let m = followed_yes (number_of (take k l)) (drop (suc k) l) more n (rw e at h) in
     let w = last_yes (take k l) n (sym m.0) in
     record {
-      within = omega arith;
       field = take k l;
-      is = rw (m.1, add-one k) (fields_first l t);
+      is = rw (sym m.1) (fields_first l t);
       number = w.number;
       value = w.value;
     })
-    (λ e. absurd (none-some (n, i) (sym (rw e at h))))
+    (λ e. absurd (none-some (n, more) (rw e at h)))
 
 -- the first field is no number, or no other follows
 pub data Headless : List (List ℕ) → Type 0 where
   single : (f : List ℕ) → Headless (f ∷ [])
   wrong : (f g : List ℕ) (fs : List (List ℕ)) → is_number f ≡ false → Headless (f ∷ g ∷ fs)
 
-followed_no : (m : Option ℕ) (k : ℕ) → None ≡ followed m k → m ≡ None
-followed_no (Some x) k e = absurd (none-some (x, k) e)
+followed_no : (m : Option ℕ) (k : List ℕ) → followed m k ≡ None → m ≡ None
+followed_no (Some x) k e = absurd (none-some (x, k) (sym e))
 followed_no None k e = refl
 
-pub head_no : (l : List ℕ) → None ≡ first_of l → Headless (fields l)
+pub head_no : (l : List ℕ) → first_of l ≡ None → Headless (fields l)
 unfolding first_of
 head_no l h =
     let k = first_at is_tab l in
     cases (ltb k (length l))
     (λ e.
     let s = fields_some (drop (suc k) l) in
-    let n = number_no (take k l) (followed_no (number_of (take k l)) (k + 1) (rw e at h)) in
+    let n = number_no (take k l) (followed_no (number_of (take k l)) (drop (suc k) l) (rw e at h)) in
     rw (fields_first l (ltb-true k (length l) e), s.is) (wrong (take k l) s.first s.more n))
     (λ e. rw (fields_alone l (any_first is_tab l ∙ e)) (single l))
 
 -- how the code finds out
 module _ (l : List ℕ) where
-  pub first_tabless : None ≡ position is_tab l → None ≡ first_of l
+  pub first_tabless : None ≡ position is_tab l → first_of l ≡ None
   unfolding first_of
   first_tabless h = rw (le-ltb (first_at is_tab l) (length l) (position_none is_tab l (sym h)))
 
   module _ (i : ℕ) (found : Some i ≡ position is_tab l) where
-    pub first_no_lem : None ≡ number_of (take i l) → None ≡ first_of l
+    pub first_no_lem : None ≡ number_of (take i l) → first_of l ≡ None
     unfolding first_of
     first_no_lem n =
         let p = position_some is_tab l i (sym found) in
         rw (sym p.0, lt-ltb i (length l) p.1, sym n)
 
-    pub first_yes : (n : ℕ) → Some n ≡ number_of (take i l) → Some (n, i + 1) ≡ first_of l
+    pub first_yes : (n : ℕ) → Some n ≡ number_of (take i l) → first_of l ≡ Some (n, behind l (i + 1))
     unfolding first_of
     first_yes n v =
         let p = position_some is_tab l i (sym found) in
-        rw (sym p.0, lt-ltb i (length l) p.1, sym v)
+        rw (part_to_end l (i + 1), add-one i, sym p.0, lt-ltb i (length l) p.1, sym v)
 
     pub first_within : i < length l
     first_within = (position_some is_tab l i (sym found)).1
@@ -204,19 +202,20 @@ pair_unlike : {fs : List (List ℕ)} (a : List ℕ) → NotLast fs → None ≡ 
 pair_unlike a (lone f n) = rw (n, and-false (is_number a))
 pair_unlike a (several f g fs) = refl
 
-pub pair_none : (l : List ℕ) → None ≡ first_of l → None ≡ pair_of (fields l)
+pub pair_none : (l : List ℕ) → first_of l ≡ None → None ≡ pair_of (fields l)
 pair_none l h = pair_headless (head_no l h)
 
-pub pair_one : (l : List ℕ) (n i : ℕ) → Some (n, i) ≡ first_of l → None ≡ number_of (behind l i) → None ≡ pair_of (fields l)
-pair_one l n i h k =
-    let a = head_yes l n i h in
-    rw a.is (pair_unlike a.field (last_no (drop i l) (k ∙ ap number_of (part_to_end l i))))
+pub pair_one : (l : List ℕ) (n : ℕ) (more : List ℕ) → first_of l ≡ Some (n, more) → None ≡ number_of more
+    → None ≡ pair_of (fields l)
+pair_one l n more h k =
+    let a = head_yes l n more h in
+    rw a.is (pair_unlike a.field (last_no more k))
 
-pub pair_both : (l : List ℕ) (n i m : ℕ) → Some (n, i) ≡ first_of l → Some m ≡ number_of (behind l i)
+pub pair_both : (l : List ℕ) (n m : ℕ) (more : List ℕ) → first_of l ≡ Some (n, more) → Some m ≡ number_of more
     → Some (n, m) ≡ pair_of (fields l)
-pair_both l n i m h k =
-    let a = head_yes l n i h in
-    let b = last_yes (drop i l) m (k ∙ ap number_of (part_to_end l i)) in
+pair_both l n m more h k =
+    let a = head_yes l n more h in
+    let b = last_yes more m k in
     rw (a.is, b.alone, a.number, b.number, a.value, b.value)
 
 -- ---- the record of letter `O`
@@ -250,19 +249,18 @@ opening_pair a b (c ∷ []) n m y z v w = refl
 opening_pair a b (c ∷ d ∷ []) n m y z v w = rw (y, z, v, w) (cases (is_number c && is_number d) (λ e. rw e) (λ e. rw e))
 opening_pair a b (c ∷ d ∷ e ∷ fs) n m y z v w = refl
 
-pub opening_none : (l : List ℕ) → None ≡ first_of l → no_record ≡ read_fields ((79 ∷ []) ∷ fields l)
+pub opening_none : (l : List ℕ) → first_of l ≡ None → no_record ≡ read_fields ((79 ∷ []) ∷ fields l)
 opening_none l h = opening_headless (head_no l h)
 
-pub opening_one : (l : List ℕ) (n i : ℕ) → Some (n, i) ≡ first_of l → None ≡ first_of (behind l i)
+pub opening_one : (l : List ℕ) (n : ℕ) (more : List ℕ) → first_of l ≡ Some (n, more) → first_of more ≡ None
     → no_record ≡ read_fields ((79 ∷ []) ∷ fields l)
-opening_one l n i h k =
-    let a = head_yes l n i h in
-    rw a.is (opening_second a.field (head_no (drop i l) (k ∙ ap first_of (part_to_end l i))))
+opening_one l n more h k =
+    let a = head_yes l n more h in
+    rw a.is (opening_second a.field (head_no more k))
 
-pub opening_two : (l : List ℕ) (n i m j : ℕ) (p : Option (ℕ × ℕ)) → Some (n, i) ≡ first_of l → Some (m, j) ≡ first_of (behind l i)
-    → p ≡ pair_of (fields (behind (behind l i) j)) → open_line n m p ≡ read_fields ((79 ∷ []) ∷ fields l)
-opening_two l n i m j p h k e =
-    let a = head_yes l n i h in
-    let b = head_yes (behind l i) m j k in
-    rw (a.is, sym (part_to_end l i), b.is, e, part_to_end (behind l i) j)
-    (opening_pair a.field b.field (fields (drop j (behind l i))) n m a.number b.number a.value b.value)
+pub opening_two : (l : List ℕ) (n m : ℕ) (more last : List ℕ) (p : Option (ℕ × ℕ)) → first_of l ≡ Some (n, more)
+    → first_of more ≡ Some (m, last) → p ≡ pair_of (fields last) → open_line n m p ≡ read_fields ((79 ∷ []) ∷ fields l)
+opening_two l n m more last p h k e =
+    let a = head_yes l n more h in
+    let b = head_yes more m last k in
+    rw (a.is, b.is, e) (opening_pair a.field b.field (fields last) n m a.number b.number a.value b.value)

@@ -1,5 +1,6 @@
 -- What the code's record of a line stands for, and what the parts of the reader give. For the contracts of the reader.
-use Rattle.std.specs.Prelude.{ℕ, ◌+◌, List, [], ◌∷◌, Bool, cond, ◌&&◌, eqb, ltb, length, take, replicate, Option, Some, None}
+use Rattle.std.specs.Prelude.{ℕ, suc, List, [], ◌∷◌, Bool, cond, ◌&&◌, eqb, ltb, length, take, drop, replicate}
+use Rattle.std.specs.Prelude.{Option, Some, None}
 use Rattle.lists.specs.Lists.{first_at}
 use Rattle.calls.specs.Calls.{Call, on_packet, take_transmit, open_connection, completed}
 use Rattle.records.specs.Lines.{Line, calls, no_record, decimal, is_number, is_hex_digit, hex_value}
@@ -29,14 +30,14 @@ digit_of x = cond (is_hex_digit x) (Some (hex_value x)) None
 unfoldable pub number_of : List ℕ → Option ℕ
 number_of f = cond (is_number f) (Some (decimal 0 f)) None
 
--- the first field, where a tab ends it: its number, and the index behind the tab
-abbrev pub followed : Option ℕ → ℕ → Option (ℕ × ℕ)
-followed (Some n) next = Some (n, next)
-followed None next = None
+-- the first field, where a tab ends it: its number, and what stands behind the tab
+abbrev pub followed : Option ℕ → List ℕ → Option (ℕ × List ℕ)
+followed (Some n) behind = Some (n, behind)
+followed None behind = None
 
-unfoldable pub first_of : List ℕ → Option (ℕ × ℕ)
+unfoldable pub first_of : List ℕ → Option (ℕ × List ℕ)
 first_of l = cond (ltb (first_at is_tab l) (length l))
-    (followed (number_of (take (first_at is_tab l) l)) (first_at is_tab l + 1)) None
+    (followed (number_of (take (first_at is_tab l) l)) (drop (suc (first_at is_tab l)) l)) None
 
 -- two fields, both numbers
 abbrev pub pair_of : List (List ℕ) → Option (ℕ × ℕ)

@@ -27,8 +27,8 @@ fn run_lines(mut unit: Unit, input: &[u8], out: &mut [u8], at: usize) -> usize
     let mut packet = [0; 1024];
     let mut p = at;
     let mut rest = input;
-    // No `for` over `split_inclusive`: it yields a line with its newline, if it has one, and `strip_suffix` behind it speaks of
-    // the line's end, where the definition of the lines speaks of the first newline, as `split_line` does.
+    // No `for` over `split_inclusive`, which is no plainer: it leaves the newline on a line that has one, so each turn would take
+    // it off again, where `split_line` cuts at the first newline, as the definition of the lines does.
     while !rest.is_empty() {
         if out.len() - p < 512 {
             return p;

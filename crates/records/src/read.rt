@@ -1,6 +1,6 @@
 // Reading a line of input: its letter, and then the fields behind it. A tab is neither a digit nor a hex digit, so what is read
 // as a number or a packet up to the line's end is the line's last field.
-ghost use Rattle.std.specs.Prelude.{◌≡◌, ◌==◌, List, [], ◌∷◌, ℕ, ◌≤◌, length, position};
+ghost use Rattle.std.specs.Prelude.{◌≡◌, ◌==◌, List, [], ◌∷◌, ℕ, position, None, Some, MatchOption};
 ghost use Rattle.records.specs.Lines.{fields, read_fields, read_line};
 ghost use Rattle.records.specs.Reading.{line_of, digit_of, number_of, first_of, pair_of};
 
@@ -11,11 +11,10 @@ use links::Timing;
 pub fn read_line(line: &[u8], packet: &mut [u8; 1024]) -> Option<Record>
     ensures { line_of result packet.new ≡ read_line line.now }
 {
-    if line.len() < 2 || line[1] != b'\t' {
+    let [letter, b'\t', rest @ ..] = line else {
         return None;
-    }
-    let rest = &line[2..];
-    match line[0] {
+    };
+    match *letter {
         b'P' => read_packet(rest, packet),
         b'O' => read_opening(rest),
         b'T' => {
@@ -59,10 +58,9 @@ fn hex_value(x: u8) -> Option<u8>
 fn read_opening(rest: &[u8]) -> Option<Record>
     ensures { (packet : List ℕ) → line_of result packet ≡ read_fields ((79 ∷ []) ∷ fields rest.now) }
 {
-    let (handle, i) = first_number(rest)?;
-    let behind = &rest[i..];
-    let (interval, j) = first_number(behind)?;
-    let (latency, timeout) = read_pair(&behind[j..])?;
+    let (handle, behind) = first_number(rest)?;
+    let (interval, pair) = first_number(behind)?;
+    let (latency, timeout) = read_pair(pair)?;
     let timing = Timing {
         interval,
         latency,
@@ -75,18 +73,18 @@ fn read_opening(rest: &[u8]) -> Option<Record>
 fn read_pair(rest: &[u8]) -> Option<(u16, u16)>
     ensures { result ≡ pair_of (fields rest.now) }
 {
-    let (a, i) = first_number(rest)?;
-    let b = read_number(&rest[i..])?;
+    let (a, behind) = first_number(rest)?;
+    let b = read_number(behind)?;
     Some((a, b))
 }
 
-// The number of the first field, where it is one and another field follows, and the index behind its tab.
-fn first_number(rest: &[u8]) -> Option<(u16, usize)>
-    ensures { result ≡ first_of rest.now }
+// The number of the first field, where it is one and another field follows, and the octets behind its tab.
+fn first_number(rest: &[u8]) -> Option<(u16, &[u8])>
+    ensures { MatchOption result (first_of rest.now ≡ None) (λ p. first_of rest.now ≡ Some (p.0, p.1.now)) }
 {
     let i = place_of(rest, b'\t')?;
     let a = read_number(&rest[..i])?;
-    Some((a, i + 1))
+    Some((a, &rest[i + 1..]))
 }
 
 // The index of the first octet that is x.

@@ -1,5 +1,5 @@
-// Octets in hex, two digits each; the program `vectors` has its own, since a crate below both would be longer than this. For
-// run.rt.
+// Octets in hex, two digits each. The program `vectors` has its own: the one crate below both, `octets`, is the controller's,
+// which prints nothing, and a new one would be longer than this. For run.rt.
 use std::fmt;
 
 #[derive(Drop)]

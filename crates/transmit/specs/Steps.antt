@@ -1,6 +1,6 @@
 -- What the steps of queueing and of taking do, on the list of the waiting packets: for the contracts of the functions of this
 -- crate that no other crate calls.
-use Rattle.std.specs.Prelude.{◌≡◌, ℕ, ◌+◌, ◌*◌, ◌≤◌, ◌<◌, Bool, true, false, not, leb, ltb, length, get_or, set}
+use Rattle.std.specs.Prelude.{◌≡◌, ℕ, ◌+◌, ◌*◌, ◌≤◌, Bool, true, false, not, leb, ltb, length, get_or, set}
 use mathlib.Core.List.{List, [], ◌∷◌, map, flatten}
 use Rattle.lists.specs.Lists.{any, all, keyed, taken, leaving, read_at}
 use Rattle.links.specs.Links.{waits_for}
@@ -19,10 +19,10 @@ pub record CanMark (l : List Waiting) (n : ℕ) : Type 0 where
   pub few : n ≤ 32
   pub placed : all (place_below 32) l ≡ true
 
--- the marks tell of each of the 32 places whether a packet owns it
+-- true stands at the places that the packets own, false at the others; past the end of the marks no packet owns a place
 pub record Marks (l : List Waiting) (marks : List Bool) : Type 0 where
   pub long : length marks ≡ 32
-  pub marked : (place : ℕ) → place < 32 → get_or marks place false ≡ any (keyed place_of place) l
+  pub marked : (place : ℕ) → get_or marks place false ≡ any (keyed place_of place) l
 
 -- a place without a mark
 abbrev pub is_free : Bool → Bool

@@ -37,14 +37,13 @@ pub record PoolFits (s : Links) (size places : ℕ) (pool : List ℕ) : Type 0 w
   pub small : size ≤ 1024
   pub room : places * size ≤ length pool
 
--- when a packet of n octets can be queued for a link: fewer packets are in use than there are places
-pub record CanQueue (s : Links) (size places handle n : ℕ) (pool packet : List ℕ) : Type 0 where
+-- when a packet can be queued for a link: fewer packets are in use than there are places
+pub record CanQueue (s : Links) (size places handle : ℕ) (pool packet : List ℕ) : Type 0 where
   pub fits : PoolFits s size places pool
   pub linked : has handle (opened s) ≡ true
   pub free : s.waiting_count + s.in_flight < places
-  pub least : 5 ≤ n
-  pub most : n ≤ size
-  pub given : n ≤ length packet
+  pub least : 5 ≤ length packet
+  pub most : length packet ≤ size
 
 -- the packet waits last; the other packets' octets, and everything else, are as they were. Its octets stand in some place
 -- that no packet owned, and no other octet of the pool changes, be it in an unused place or past the places

@@ -1,10 +1,11 @@
-// Packets in the pool: queueing one for a link, and taking a link's packets for the air. The pool is lent by the caller, with
-// what places it has. For data packets and `take_transmit` of the controller. Both give the waiting packets
-// and no more of the links, which the caller puts together: were all of them to go through, they would be copied more often
-// (docs/SPEED.md). Contracts cite `specs/Transmit.antt`, those of the steps `specs/Steps.antt`.
+// Packets in the pool: queueing one for a link, and taking a link's packets for the air. The caller lends the pool, and says how
+// many places it has and how many octets each of them holds (`Places` of `links`). For data packets and `take_transmit` of the
+// controller. Both give the waiting packets and no more of the links, which the caller puts together: were all of them to go
+// through, they would be copied more often (docs/SPEED.md). Contracts cite `specs/Transmit.antt`, those of the steps
+// `specs/Steps.antt`.
 #![tactic(auto)]
 
-ghost use Rattle.std.specs.Prelude.{◌≡◌, ◌+◌, ◌*◌, ◌≤◌, length, take};
+ghost use Rattle.std.specs.Prelude.{◌≡◌, ◌+◌, ◌*◌, ◌≤◌, length};
 ghost use Rattle.lists.specs.Lists.{first_at, read_at};
 ghost use Rattle.octets.specs.Octets.{Put};
 ghost use Rattle.transmit.specs.Transmit.{CanQueue, Queued, PoolFits, Takes};
@@ -43,26 +44,25 @@ fn free_place(waiting: &[Waiting]) -> usize
     lowest_free(&owned[..waiting.len()])
 }
 
-// The waiting packets with one more, the first n octets of packet, copied to a place that no waiting packet owns.
+// The waiting packets with one more, whose octets are copied to a place that no waiting packet owns.
 pub fn enqueue(
     links: Links,
     pool: &mut [u8],
     places: Places,
     handle: u16,
     packet: &[u8],
-    n: usize,
 ) -> [Waiting; 32]
-    requires { CanQueue links places.size places.count handle n pool.old packet.now }
-    ensures { Queued links places.size places.count handle (take n packet.now) pool.old result pool.new }
+    requires { CanQueue links places.size places.count handle pool.old packet.now }
+    ensures { Queued links places.size places.count handle packet.now pool.old result pool.new }
 {
     let mut waiting = links.waiting;
     let count = links.waiting_count;
     let place = free_place(links.waiting());
-    octets::put(pool, place * places.size, &packet[..n]);
+    octets::put(pool, place * places.size, packet);
     // By `as`: a packet has at most 1,024 octets and a place is below 32, and `try_from` would want a branch that no run takes.
     waiting[count] = Waiting {
         handle,
-        len: n as u16,
+        len: packet.len() as u16,
         place: place as u8,
     };
     waiting

@@ -4,7 +4,7 @@
 
 use std::{fmt, io};
 
-// Octets in hex, two digits each; `replay` has its own, since a crate below both programs would be longer than this.
+// Octets in hex, two digits each; `replay` has its own, and says why.
 #[derive(Drop)]
 struct Hex<'a>(&'a [u8]);
 

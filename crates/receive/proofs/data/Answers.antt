@@ -1,7 +1,9 @@
 -- `receive::data` meets its contract.
 use mathlib.Core.Path.{◌≡◌, sym, ◌∙◌}
+use Prim.Native.Nat.{◌+◌}
 use mathlib.Core.List.{[]}
 use lib.ListN.{length}
+use lib.Seq.{length-take-le}
 use native.Mathlib.Omega.{arith}
 use Rattle.lists.proofs.Copying.{length_of_map}
 use Rattle.hci.proofs.Readers.{acl_tells}
@@ -46,6 +48,11 @@ returns-then-buffers_in_use-places c =
     (omega (arith, used, c.places-places.ensures.0, c.if-buffers_in_use-places.true)))
     c.dropped-then-buffers_in_use-places.ensures
 
+pub slice_bounds-enqueue-end : goal.slice_bounds-enqueue-end
+slice_bounds-enqueue-end c =
+    let header = sym c.parse.ensures ∙ c.in-Ok.is in
+    rw c.from-n.ensures (sym (length-take-le _ c.args.packet.now (omega (arith, (acl_tells _ header).present))))
+
 pub enqueue-waiting-requires : goal.enqueue-waiting-requires
 enqueue-waiting-requires c =
     let header = sym c.parse.ensures ∙ c.in-Ok.is in
@@ -54,6 +61,7 @@ enqueue-waiting-requires c =
     let ready = c.requires.ready in
     let wide : length links.waiting ≡ 32 = search (rules, length_of_map, c.well_formed) in
     let used = in_use_lem links wide ready.holds.links.few_waiting 0 [] in
+    let whole = length-take-le (c.in-Ok.header.len + 5) c.args.packet.now (omega (arith, (acl_tells _ header).present)) in
     rw (c.places-places.ensures.1, c.places-places.ensures.0, c.from-n.ensures)
     (record {
       fits = record {
@@ -64,9 +72,8 @@ enqueue-waiting-requires c =
       };
       linked = (both (flags_served c.in-Ok.header) _ linked).1;
       free = omega (arith, used, c.buffers_in_use.ensures 0 [], c.places-places.ensures.0, c.if-buffers_in_use-places.false);
-      least = omega arith;
-      most = omega (arith, c.if-header-profile.false);
-      given = omega (arith, (acl_tells _ header).present);
+      least = omega (arith, whole);
+      most = omega (arith, whole, c.if-header-profile.false);
     })
 
 pub returns : goal.returns

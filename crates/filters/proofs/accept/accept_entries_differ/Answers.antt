@@ -1,8 +1,9 @@
 -- `filters::accept::accept_entries_differ` meets its contract.
-use Rattle.std.proofs.Common.{◌≡◌, length, arith, rules, sym, ◌∙◌}
+use Rattle.std.proofs.Common.{arith, sym, ap, ◌∙◌}
 use borrow.Author.Tests.{lt-ltb}
 use Rattle.lists.proofs.Chunks.{length_chunks}
 use Rattle.lists.proofs.Agree.{distinct_short}
+use Rattle.filters.specs.Filters.{identities_differ}
 use Rattle.filters.proofs.Identities.{differ_entry}
 use Rattle.filters.proofs.accept.accept_entries_differ.Goals as goal
 
@@ -15,5 +16,4 @@ returns-then-list-lt2 c =
 pub returns-else-list-lt2 : goal.returns-else-list-lt2
 returns-else-list-lt2 c =
     let list = c.args.list in
-    let long : length list.octets ≡ 224 = search rules in
-    c.entries_differ.ensures ∙ differ_entry list.count list.octets (omega arith)
+    c.entries_differ.ensures ∙ ap identities_differ c.entries.ensures.list ∙ differ_entry list.count list.octets

@@ -3,4 +3,4 @@ use Rattle.filters.proofs.Differing.{Differing}
 use Rattle.filters.proofs.differ.entries_differ.Given as goal
 
 abbrev pub invariant-loop-i : goal.invariant-loop-i
-invariant-loop-i g l = Differing g.row.W l.n l.octets l.met l.i
+invariant-loop-i g l = Differing l.entries l.met l.i

@@ -1,25 +1,13 @@
 -- `records::read::read_opening` meets its contract.
-use Rattle.records.proofs.Numbers.{head_yes, opening_none, opening_one, opening_two}
+use Rattle.records.proofs.Numbers.{opening_none, opening_one, opening_two}
 use Rattle.records.proofs.read.read_opening.Goals as goal
 
 pub returns-in_err-handle : goal.returns-in_err-handle
 returns-in_err-handle c = λ packet. rw c.from_residual.ensures (opening_none _ c.in_err-handle.ensures)
 
-pub slice_bounds-behind-count : goal.slice_bounds-behind-count
-slice_bounds-behind-count c = (head_yes _ _ _ c.in_ok-handle.ensures).within
-
-pub slice_bounds-behind-start : goal.slice_bounds-behind-start
-slice_bounds-behind-start c = (head_yes _ _ _ c.in_ok-handle.ensures).within
-
 pub returns-in_err-interval : goal.returns-in_err-interval
 returns-in_err-interval c =
     λ packet. rw c.from_residual-in_err-interval.ensures (opening_one _ _ _ c.in_ok-handle.ensures c.in_err-interval.ensures)
-
-pub slice_bounds-read_pair-count : goal.slice_bounds-read_pair-count
-slice_bounds-read_pair-count c = (head_yes _ _ _ c.in_ok-interval.ensures).within
-
-pub slice_bounds-read_pair-start : goal.slice_bounds-read_pair-start
-slice_bounds-read_pair-start c = (head_yes _ _ _ c.in_ok-interval.ensures).within
 
 pub returns-in_err-latency : goal.returns-in_err-latency
 returns-in_err-latency c =

@@ -1,15 +1,9 @@
 -- `records::read::read_pair` meets its contract.
-use Rattle.records.proofs.Numbers.{head_yes, pair_none, pair_one, pair_both}
+use Rattle.records.proofs.Numbers.{pair_none, pair_one, pair_both}
 use Rattle.records.proofs.read.read_pair.Goals as goal
 
 pub returns-in_err-a : goal.returns-in_err-a
 returns-in_err-a c = rw c.from_residual.ensures (pair_none _ c.in_err-a.ensures)
-
-pub slice_bounds-read_number-count : goal.slice_bounds-read_number-count
-slice_bounds-read_number-count c = (head_yes _ _ _ c.in_ok-a.ensures).within
-
-pub slice_bounds-read_number-start : goal.slice_bounds-read_number-start
-slice_bounds-read_number-start c = (head_yes _ _ _ c.in_ok-a.ensures).within
 
 pub returns-in_err-b : goal.returns-in_err-b
 returns-in_err-b c =
