@@ -1,8 +1,8 @@
 // What the commands share: the answer beside the state, a part of the state put back, answers that return octets, the events that
 // follow an answer, the tests of parameters that more than one command makes, and the table of opcodes and lengths. `specs/`
 // holds the definitions of all commands; their code is in the crates `known`, `air`, `link`, `privacy` and `test_and_power`. For
-// these, and for `command` above them. Their contracts ask that questions 1 and 3 were answered (`Ready`): a type that carried
-// this fact of a state and a profile would be a copy of both beside those that C hands in, at every call (docs/SPEED.md).
+// these, and for `command` above them. Their contracts ask that questions 1 and 3 were answered (`Ready`): a type of a
+// state and a profile with this fact would be no plainer: twelve functions take both, the others one of them, or a part.
 #![tactic(auto)]
 
 mod checks;

@@ -50,7 +50,8 @@ about_packet k opcodes answers bits holds pool room =
     first_no (question 1 (within_limits k) ∷ question 2 (rows_fit opcodes answers bits) ∷ question 3 holds
     ∷ question 4 (leb (k.acl_count * place_size k) pool) ∷ question 5 (leb 71 room) ∷ [])
 
--- a notice's answer: no acknowledgement, an event of at most 37 octets behind it, and a buffer that question 5 was asked of
+-- a notice's answer: its acknowledgement has no octets, the event behind it has at most 37 by its type, and the buffer is one
+-- that question 5 was asked of
 pub record CanTell (a : Answer) (out : List ℕ) : Type 0 where
   pub alone : (answer_of a).octets ≡ []
   pub room : 71 ≤ length out

@@ -1,5 +1,5 @@
-// What a user may ask of a controller, and the state that it starts with. A query that C gets answers false or 0 where it is
-// refused; `terminating`, which C does not get, answers the refusal itself.
+// What a user may ask of a controller, and the state that it starts with. A query that C gets answers false, 0 or a map without
+// bits where it is refused; `terminating`, which C does not get, answers the refusal itself.
 ghost use Rattle.std.specs.Prelude.{◌≡◌, None, false, IfOk};
 ghost use Rattle.std.specs.Result.{result_unwrap_or};
 ghost use Rattle.links.specs.Links as links;

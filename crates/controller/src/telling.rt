@@ -11,7 +11,8 @@ use commands::{Answered, StatePart};
 use state::Controller;
 
 // The state with what the notice changed, and its event, if it has one, written to the front of out. A notice has no
-// acknowledgement, so there is no opcode, and its event is written from the answer as it stands; the second arm is for an
+// acknowledgement, so there is no opcode, and its event is written from the answer as it stands: by `write_answer` alone, which
+// is lent the answer or takes it, a notice with an event takes 13 to 16 instructions more. The second arm is for an
 // acknowledgement of no octets, which `CanTell` does not rule out. The state is put together before the event is written
 // (docs/SPEED.md). Each notice asks its questions itself: in one function that asks and runs the notice as a closure the state is
 // copied once more, and calls take 1 to 28 % more instructions, of those without a buffer 11 to 18 %.

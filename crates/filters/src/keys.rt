@@ -4,8 +4,9 @@ ghost use Rattle.lists.specs.Lists.{chunks};
 ghost use Rattle.filters.specs.Filters.{has_identity};
 ghost use Rattle.filters.specs.Keys.{key_of, IsEntry, without_place};
 
-// The number of an entry's first seven octets, lowest first. Equal numbers are of equal octets only if each octet is below 256:
-// the type says so of one entry, and of a list of entries a proof is told nothing, so it has it from here.
+// The number of an entry's first seven octets, lowest first. Equal numbers are of equal octets only if each octet is below 256. A
+// proof knows that of one entry by its type, but not of the entries of a slice, so the clause `octets` says it of each that is
+// read.
 #[tactic(auto, unfolding(crate::specs::Keys::key_of))]
 pub fn key_of<const W: usize>(entry: &[u8; W]) -> u64
     requires { 7 ≤ W }

@@ -2,9 +2,9 @@
 // and an address) and the resolving list (16 identities, each a type, an address and its privacy mode). For the commands
 // 0x2010 to 0x2012, 0x2027 to 0x2029 and 0x204E, and for question 3. Two types and not one: both cross to C, and a struct with
 // const arguments, also by an alias, is refused in an exported function's signature (`[unsupported-generic-in-c]`); what they
-// share takes the entries. The arrays are flat because C's header names them. The lists are C's structs and hold any count; a
-// second type, made after question 3, would be a copy of the list at each call, so the functions ask for a small count. Contracts
-// cite `specs/Filters.antt`.
+// share takes the entries, or, to take one out, the octets and the width. The arrays are flat because C's header names them. C's
+// structs hold any count, and the functions ask for a small one: a type that borrowed a list with this fact would be no plainer,
+// since the functions give lists back, of which each caller would make it anew. Contracts cite `specs/Filters.antt`.
 #![tactic(auto)]
 
 mod accept;

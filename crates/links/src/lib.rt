@@ -1,8 +1,9 @@
-// The controller's links: sixteen connection places beside their count, one queue of the packets that wait in all links, and
-// the number of packets in flight. The packets' octets lie in a pool that the caller lends (crate `transmit`). For the
-// controller's commands, notices and question 3. Contracts cite `specs/`. C hands the links in, any octets as a state: so they
-// are arrays beside counts, and PHYs and a yes or no are octets. Question 3 finds out that the counts fit (`CountsFit`), and
-// contracts ask for it: a type that carried it would be a copy of the links at every call (docs/SPEED.md).
+// The controller's links: sixteen connection places beside their count, one queue of the packets that wait in all links, and the
+// number of packets in flight. The packets' octets lie in a pool that the caller lends (crate `transmit`). For the controller's
+// commands, notices and question 3. Contracts cite `specs/`. C hands the links in, any octets as a state: so they are arrays
+// beside counts, and PHYs and a yes or no are octets. Question 3 finds out that the counts fit (`CountsFit`), and contracts ask
+// for it: a type that borrowed the links with this fact would be no plainer, since the functions give links back, of which each
+// caller would make it anew and show the fact again.
 #![tactic(auto)]
 
 ghost use Rattle.std.specs.Prelude.{◌≡◌, ◌≤◌, []};

@@ -1,5 +1,5 @@
-// A few items in an array that has room for N, for the crates above: an answer's octets, the packets that are taken, the text
-// that a line is answered with.
+// Items in an array that has room for N, for the crates above: an answer's octets, packets, the line that `bench` holds, and the
+// text that a line is answered with.
 ghost use Rattle.std.specs.Prelude.{◌≡◌, ◌≤◌, ⊤};
 
 use std::alloc::AllocError;

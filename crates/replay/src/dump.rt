@@ -93,8 +93,8 @@ fn put_resolving_list(out: &mut Vec<u8>, list: ResolvingList) -> Result<(), Allo
     put_counted(out, list.count, 8, &list.octets)
 }
 
-// The links, and how many packets are in flight. The length in the profile and no `Places`: of its octet and word it is known
-// that the index of a packet fits, of two `usize` it is not.
+// The links, and how many packets are in flight. The profile's length and no `Places`: a packet's index, of an octet and a word,
+// is known to fit; of two `usize` it is not.
 fn put_links(out: &mut Vec<u8>, links: Links, acl_len: u16, pool: &[u8]) -> Result<(), AllocError> {
     let connections = &links.connections[..links.count.min(16)];
     let [count, ..] = connections.len().to_le_bytes();

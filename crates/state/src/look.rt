@@ -43,7 +43,8 @@ fn initiator_filters(scanning: Scanning) -> bool
 }
 
 // Whether a mask has a bit. Bits are constants of `hci::mask` or a subevent's code less one: a type of their own is no plainer.
-// Nor is one function for this, a set of PHYs and a map of octets: each is a line, over numbers of another type.
+// Nor is one function for this and `hci::mask_has`, which answers a Result, since it refuses a bit from 64 on; nor for the tests
+// of two features, of a set of PHYs (u8) and of a map of octets: each is a line.
 fn has_bit(mask: u64, bit: u32) -> bool
     requires { bit < 64 }
     ensures { result ≡ (bit_of mask bit == 1) }
