@@ -144,21 +144,19 @@ pub fn followed_by_connection_complete(
     followed_by_le(answer, masks, CONNECTION_COMPLETE, &plain)
 }
 
-// A connection that failed: its status, and zeros.
-#[tactic(auto, unfolding(crate::specs::Following::connection_failed))]
+// A connection that failed: its status, and zeros. The parameters are zeros in each form, so they are not put together of their
+// parts, as those of a link that opened are: that took a third more time of a call that tells the advertising's end.
+#[tactic(auto, unfolding(crate::specs::Following::connection_failed, crate::specs::Following::connection_complete))]
 pub fn followed_by_connection_failed(answer: Answer, masks: Masks, code: u8) -> Answer
     ensures { Follows (connection_failed masks code) answer result }
 {
-    let failed = ConnectionComplete {
-        head: [code, 0, 0, 0, 0],
-        peer: [0; 6],
-        timing: Timing {
-            interval: 0,
-            latency: 0,
-            timeout: 0,
-        },
-        clock_accuracy: 0,
-        sets: [0; 3],
-    };
-    followed_by_connection_complete(answer, masks, failed)
+    let mut failed = [0; 33];
+    failed[0] = code;
+    if masks.enables_le(ENHANCED_CONNECTION_COMPLETE_V2) {
+        return followed_by_subevent(answer, ENHANCED_CONNECTION_COMPLETE_V2, &failed);
+    }
+    if masks.enables_le(ENHANCED_CONNECTION_COMPLETE) {
+        return followed_by_subevent(answer, ENHANCED_CONNECTION_COMPLETE, &failed[..30]);
+    }
+    followed_by_le(answer, masks, CONNECTION_COMPLETE, &failed[..18])
 }

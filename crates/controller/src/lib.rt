@@ -27,6 +27,7 @@ pub use ending::{
     wegrulsta_complete_disconnect as complete_disconnect,
     wegrulsta_remote_disconnect as remote_disconnect,
 };
+pub use links::Timing;
 pub use opening::{
     wegrulsta_accept as accept_connection, wegrulsta_advertising_timeout as advertising_timeout,
     wegrulsta_open as open_connection,

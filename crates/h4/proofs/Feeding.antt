@@ -20,7 +20,7 @@ use Rattle.h4.specs.Framing.{ArePackets, packets, rest, whole_octets, framed, pa
 use Rattle.h4.specs.Stream.{held_octets, fits, stream_of, told, Feeds, lost}
 use Rattle.h4.proofs.Splitting.{packets_octets, octets_le, packets_are}
 use Rattle.h4.proofs.Losing.{framed_answers, framed_count}
-use Rattle.h4.proofs.Handing.{packet_after, packet_past}
+use Rattle.h4.proofs.Handing.{packet_after, packet_past, one_of}
 
 -- How `feed` meets its contract
 
@@ -114,7 +114,8 @@ module _ {s t : H4Stream} {buffer bytes after : List ℕ} {answer : Result ℕ S
   pub fed_hands_out : (ps : List (List ℕ)) (q : List ℕ) (qs : List (List ℕ))
       → packets (held_octets s buffer ++ bytes) ≡ ps ++ q ∷ qs → packet_at (take t.ready after) (length (flatten ps)) ≡ q
   fed_hands_out ps q qs h =
-      rw (fed_ready, fed_packets, h) (packet_after ps q qs (subst ArePackets h (packets_are (held_octets s buffer ++ bytes))))
+      let are = subst ArePackets h (packets_are (held_octets s buffer ++ bytes)) in
+      rw (fed_ready, fed_packets, h) (packet_after ps q qs (one_of ps q qs are))
 
   -- and nothing past the last
   pub fed_hands_out_no_more : (i : ℕ) → n ≤ i → packet_at (take t.ready after) i ≡ []

@@ -46,11 +46,23 @@ pub fn h4_packet_len(bytes: &[u8]) -> Result<Option<usize>, UndefinedIndicator>
     ensures { result ≡ packet_length bytes.now }
 {
     let n = match bytes {
-        [H4_COMMAND | H4_SCO, _, _, length, ..] => 4 + usize::from(*length),
-        [H4_EVENT, _, length, ..] => 3 + usize::from(*length),
-        [H4_ACL, _, _, low, high, ..] => 5 + usize::from(u16::from_le_bytes([*low, *high])),
-        [H4_ISO, _, _, low, high, ..] => 5 + usize::from(u16::from_le_bytes([*low, *high]) % 16384),
-        [] | [H4_COMMAND..=H4_ISO, ..] => return Ok(None),
+        [] => return Ok(None),
+        [H4_COMMAND | H4_SCO, rest @ ..] => match rest {
+            [_, _, length, ..] => 4 + usize::from(*length),
+            _ => return Ok(None),
+        },
+        [H4_EVENT, rest @ ..] => match rest {
+            [_, length, ..] => 3 + usize::from(*length),
+            _ => return Ok(None),
+        },
+        [H4_ACL, rest @ ..] => match rest {
+            [_, _, low, high, ..] => 5 + usize::from(u16::from_le_bytes([*low, *high])),
+            _ => return Ok(None),
+        },
+        [H4_ISO, rest @ ..] => match rest {
+            [_, _, low, high, ..] => 5 + usize::from(u16::from_le_bytes([*low, *high]) % 16384),
+            _ => return Ok(None),
+        },
         [other, ..] => return Err(UndefinedIndicator(*other)),
     };
     Ok(Some(n))
@@ -104,7 +116,7 @@ impl H4Stream {
             return Err(StreamError::NoRoom);
         }
         let at = octets::move_to_front(buffer, ready, held);
-        let end = octets::put(buffer, at, bytes);
+        let end = octets::put_lent(buffer, at, bytes);
         *self = H4Stream {
             ready: 0,
             held: end,
@@ -120,7 +132,9 @@ impl H4Stream {
         ensures { result.now ≡ packet_at (take self.ready buffer.now) at }
     {
         let end = self.ready.min(buffer.len());
-        let at = at.min(end);
+        if end <= at {
+            return &buffer[..0];
+        }
         front_packet(&buffer[at..end])
     }
 }

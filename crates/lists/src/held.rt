@@ -37,6 +37,13 @@ impl<T: Copy + Default, const N: usize> Held<T, N> {
         }
     }
 
+    // No items, in an array of the caller's: past the items that are put into it, it stays as it was.
+    pub fn over(items: [T; N]) -> Held<T, N>
+        ensures { held result ≡ [] }
+    {
+        Held { items, len: 0 }
+    }
+
     // These items.
     pub fn from_slice(items: &[T]) -> Held<T, N>
         requires { length items.now ≤ N }

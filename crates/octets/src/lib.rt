@@ -16,13 +16,25 @@ pub fn put(out: &mut [u8], at: usize, src: &[u8]) -> usize
     end
 }
 
+// The same for octets that a caller in C may lend, of any number, one by one: of `copy_from_slice` the compiler makes a call of
+// `memmove` there, which `libcapi.a` would need from outside.
+pub fn put_lent(out: &mut [u8], at: usize, src: &[u8]) -> usize
+    requires { at + length src.now ≤ length out.old }
+    ensures { Put out.old at src.now result out.new }
+{
+    for j in 0..src.len() {
+        out[at + j] = src[j];
+    }
+    at + src.len()
+}
+
 // Writes head and then body.
 pub fn put_two(out: &mut [u8], at: usize, head: &[u8], body: &[u8]) -> usize
     requires { at + length head.now + length body.now ≤ length out.old }
     ensures { Put out.old at (head.now ++ body.now) result out.new }
 {
     let b = put(out, at, head);
-    put(out, b, body)
+    put_lent(out, b, body)
 }
 
 // Writes the n octets that stand from index from on over the front of the same buffer, and returns n.

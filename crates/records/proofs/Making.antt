@@ -26,32 +26,27 @@ call_in no_record = advertising_timeout
 -- ---- a line
 
 -- of a line that is not too long, what was read is the record
-read_record : (line : List ℕ) {l : Line} → length line ≤ 2050 → l ≡ read_line line → record_of line ≡ l
+pub record_read : (line : List ℕ) {l : Line} → length line ≤ 2050 → l ≡ read_line line → l ≡ record_of line
 unfolding record_of
-read_record line h e = rw (le-leb (length line) 2050 h) (sym e)
+record_read line h e = rw (le-leb (length line) 2050 h) e
 
-pub too_long : (line : List ℕ) → 2050 < length line → record_of line ≡ no_record
+pub too_long : (line : List ℕ) → 2050 < length line → no_record ≡ record_of line
 unfolding record_of
 too_long line h = rw (lt-leb (length line) 2050 h)
 
 -- a line that is no record changes nothing
-pub steps_none : {line : List ℕ} {s : Held} → record_of line ≡ no_record → Steps line s s None
+pub steps_none : {line : List ℕ} {s : Held} → no_record ≡ record_of line → Steps line s s None
 steps_none none = record {
-  asked = sym (ap is_record none);
-  printed = λ c e. absurd (record_differs (sym none ∙ e));
+  asked = ap is_record none;
+  printed = λ c e. absurd (record_differs (none ∙ e));
   ended = λ e. refl;
 }
 
-pub steps_unread : {line : List ℕ} {s : Held} → length line ≤ 2050 → no_record ≡ read_line line → Steps line s s None
-steps_unread {line} h e = steps_none (read_record line h e)
-
 -- any other is a record
-pub steps_record : {line : List ℕ} {s t : Held} {text : Text} (c : Call) → length line ≤ 2050 → calls c ≡ read_line line
-    → Prints c s t (text_of text) → Steps line s t (Some text)
-steps_record {line} {s} {t} {text} c h e prints =
-    let is = read_record line h e in
-    record {
-      asked = sym (ap is_record is);
-      printed = λ d same. subst (λ (x : Call). Prints x s t (text_of text)) (ap call_in (sym is ∙ same)) prints;
-      ended = λ none. absurd (record_differs (sym none ∙ is));
-    }
+pub steps_record : {line : List ℕ} {s t : Held} {text : Text} (c : Call) → calls c ≡ record_of line → Prints c s t (text_of text)
+    → Steps line s t (Some text)
+steps_record {line} {s} {t} {text} c is prints = record {
+  asked = ap is_record is;
+  printed = λ d same. subst (λ (x : Call). Prints x s t (text_of text)) (ap call_in (is ∙ same)) prints;
+  ended = λ none. absurd (record_differs (sym (is ∙ none)));
+}

@@ -1,15 +1,17 @@
 -- The bench: the rows beside document 01's profile, and what is printed for each line of input. For readers of the program
 -- `bench` and of the C calls.
-use Rattle.std.specs.Prelude.{◌≡◌, ℕ, ◌-◌, Bool, true, false, cond, leb, eqb, length, Option, IfSome}
+use Rattle.std.specs.Prelude.{◌≡◌, ℕ, ◌-◌, ◌≤◌, Bool, true, false, cond, leb, eqb, length, Option, IfSome}
 use Rattle.std.specs.Option.{is_some}
 use mathlib.Core.List.{List, [], ◌∷◌, ◌++◌, map, flatten}
 use Rattle.h4.specs.Framing.{packets}
 use Rattle.links.specs.Links.{in_use}
 use Rattle.state.specs.State.{Model, default_model}
+use Rattle.state.specs.Holding.{StateHolds}
+use Rattle.state.specs.declared.Controller.{Controller}
 use Rattle.commands.specs.Table as table
 use Rattle.calls.specs.Packets.{Profile, Reply, reply}
 use Rattle.calls.specs.Calls.{Call, on_packet, take_transmit, open_connection, completed, drop_in_flight, accept_connection}
-use Rattle.calls.specs.Calls.{peer_update, request_ltk, complete_disconnect, remote_disconnect, advertising_timeout, Held}
+use Rattle.calls.specs.Calls.{peer_update, request_ltk, complete_disconnect, remote_disconnect, advertising_timeout, Held, held}
 use Rattle.calls.specs.Calls.{model_of, first_no, questions_of, reply_to}
 use Rattle.bench_profile.specs.Bench.{bench_controller}
 use Rattle.records.specs.declared.print.Text.{Text}
@@ -96,10 +98,20 @@ header = 72 ∷ 9 ∷ 49 ∷ 10 ∷ []
 
 -- ---- contracts
 
+-- between two lines: the state holds together, and the pool has its two places
+pub record Running (s : Held) : Type 0 where
+  pub together : StateHolds s.state bench_controller
+  pub places : 64 ≤ length s.pool
+
 -- the call c was made, and this text is its answer
 pub record Prints (c : Call) (s t : Held) (text : List ℕ) : Type 0 where
   pub viewed : model_of bench t ≡ (printed c (model_of bench s)).state
   pub written : text ≡ (printed c (model_of bench s)).octets
+  pub running : Running t
+
+-- the same of a call that takes no pool, whatever the pool holds
+abbrev pub PrintsAnyPool : Call → Controller → Controller → List ℕ → Type 0
+PrintsAnyPool c s t text = (pool : List ℕ) → 64 ≤ length pool → Prints c (held s pool) (held t pool) text
 
 abbrev pub is_record : Line → Bool
 is_record (calls c) = true

@@ -1,10 +1,19 @@
 // The bench: document 01's profile and rows, and what is printed for a record, for a line and for all lines.
-ghost use Rattle.std.specs.Prelude.{◌≡◌};
+ghost use Rattle.std.specs.Prelude.{◌≡◌, ℕ, ◌≤◌, List, length, replicate};
+ghost use Rattle.links.specs.Links.{view, in_use};
+ghost use Rattle.links.specs.Holding.{LinksHold};
 ghost use Rattle.state.specs.Holding.{StateHolds};
+ghost use Rattle.calls.specs.Calls as call;
+ghost use Rattle.calls.specs.Calls.{held};
+ghost use Rattle.calls.specs.Gives.{Starts};
 ghost use Rattle.bench_profile.specs.Bench.{bench_controller};
+ghost use Rattle.records.specs.Bench.{answer_lines, Running, Prints, PrintsAnyPool, Steps};
+ghost use Rattle.records.specs.Lines.{record_of};
+ghost use Rattle.records.specs.Reading.{call_of, line_of};
+ghost use Rattle.records.specs.Text.{text_of};
 
 use crate::{Record, Text, read, rows};
-use links::Timing;
+use links::{Links, Timing};
 use profile::ControllerRow;
 use state::Controller;
 
@@ -45,15 +54,6 @@ pub fn bench_profile() -> ControllerRow
 }
 
 impl Unit {
-    ghost use Rattle.std.specs.Prelude.{ℕ, ◌≤◌, List, length, replicate};
-    ghost use Rattle.links.specs.Links.{view, in_use};
-    ghost use Rattle.calls.specs.Calls as call;
-    ghost use Rattle.calls.specs.Calls.{held};
-    ghost use Rattle.calls.specs.Gives.{Starts};
-    ghost use Rattle.records.specs.Bench.{answer_lines, Prints, Steps};
-    ghost use Rattle.records.specs.Reading.{call_of};
-    ghost use Rattle.records.specs.Text.{text_of};
-
     // As it starts.
     pub fn new() -> Unit
         ensures { Starts result.state × (result.pool ≡ replicate 64 0) }
@@ -64,108 +64,130 @@ impl Unit {
         }
     }
 
-    // How many buffers are in use. By `as`, of which it is proved that it fits: `try_from` would give an error that never comes.
-    fn used(&self) -> u8
-        ensures { (size : ℕ) (pool : List ℕ) → result ≡ in_use (view self.now.state.links size pool) }
-    {
-        links::buffers_in_use(self.state.links) as u8
-    }
-
-    // What is printed for an answer: a line for each of its packets, and the line that ends it. Each call keeps its new state
-    // itself, by one line: were that done here, this would be handed the state and require of it what `Unit` holds.
-    fn text(&self, letter: u8, octets: &[u8], number: u8) -> Text
-        requires { length octets.now ≤ 71 }
-        ensures { (size : ℕ) (pool : List ℕ)
-            → text_of result ≡ answer_lines letter octets.now number (in_use (view self.now.state.links size pool)) }
-    {
-        let mut text = Text::new();
-        text.push_packets(letter, octets);
-        text.push_done(number, self.used());
-        text
-    }
-
-    // A packet of the host.
-    fn make_packet(&mut self, packet: &[u8]) -> Text
-        ensures { Prints (call.on_packet (replicate 6 0) 0 packet.now)
-            (held self.old.state self.old.pool) (held self.new.state self.new.pool) (text_of result) }
-    {
-        let mut events = [0u8; 71];
-        let r = controller::on_packet(
-            bench_profile(),
-            &rows::OPCODES,
-            &rows::ANSWERS,
-            &rows::BITS,
-            self.state,
-            &mut self.pool,
-            &[0; 6],
-            0,
-            packet,
-            &mut events,
-        );
-        self.state = r.state;
-        self.text(b'E', &events[..r.written], r.number)
-    }
-
-    // A take.
-    fn make_take(&mut self, handle: u16, most: u16) -> Text
-        ensures { Prints (call.take_transmit handle most)
-            (held self.old.state self.old.pool) (held self.new.state self.new.pool) (text_of result) }
-    {
-        let mut taken = [0u8; 64];
-        let r = controller::take_transmit(
-            bench_profile(),
-            self.state,
-            &self.pool,
-            handle,
-            usize::from(most),
-            &mut taken,
-        );
-        self.state = r.state;
-        self.text(b'X', &taken[..r.written], r.number)
-    }
-
-    // A report of completed packets.
-    fn make_completed(&mut self, handle: u16, count: u16) -> Text
-        ensures { Prints (call.completed handle count)
-            (held self.old.state self.old.pool) (held self.new.state self.new.pool) (text_of result) }
-    {
-        let mut events = [0u8; 71];
-        let r = controller::completed(bench_profile(), self.state, handle, count, &mut events);
-        self.state = r.state;
-        self.text(b'E', &events[..r.written], r.number)
-    }
-
-    // A link that opens, of which the host hears nothing.
-    fn make_open(&mut self, handle: u16, timing: Timing) -> Text
-        ensures { Prints (call.open_connection handle timing.interval timing.latency timing.timeout)
-            (held self.old.state self.old.pool) (held self.new.state self.new.pool) (text_of result) }
-    {
-        let r = controller::open_connection(bench_profile(), self.state, handle, timing);
-        self.state = r.state;
-        self.text(b'E', &[], r.number)
-    }
-
-    // The record's call is made. packet holds the octets of a packet.
-    fn make(&mut self, record: Record, packet: &[u8]) -> Text
-        ensures { Prints (call_of «record» packet.now)
-            (held self.old.state self.old.pool) (held self.new.state self.new.pool) (text_of result) }
-    {
-        match record {
-            Record::Packet(n) => self.make_packet(&packet[..n.min(packet.len())]),
-            Record::Take { handle, most } => self.make_take(handle, most),
-            Record::Completed { handle, count } => self.make_completed(handle, count),
-            Record::Open { handle, timing } => self.make_open(handle, timing),
-        }
-    }
-
     // One line, without its newline: what is printed for it, if it is a record. packet is a buffer for the octets of a packet.
     pub fn step(&mut self, line: &[u8], packet: &mut [u8; 1024]) -> Option<Text>
         ensures { Steps line.now (held self.old.state self.old.pool) (held self.new.state self.new.pool) result }
     {
-        if 2050 < line.len() {
-            return None;
-        }
-        let record = read::read_line(line, packet)?;
-        Some(self.make(record, packet))
+        let record = read_record(line, packet)?;
+        Some(make(&mut self.state, &mut self.pool, record, packet))
     }
+}
+
+// The same over any pool that has the two places, and with any buffer that has room for the longest packet, so that the first `?`
+// never ends it. `Unit::step` doesn't call it: the text would be copied once more.
+pub fn step(state: &mut Controller, pool: &mut [u8], line: &[u8], packet: &mut [u8]) -> Option<Text>
+    requires { Running (held state.old pool.old) × (1024 ≤ length packet.old) }
+    ensures { Steps line.now (held state.old pool.old) (held state.new pool.new) result }
+{
+    let packet = packet.first_chunk_mut()?;
+    let record = read_record(line, packet)?;
+    Some(make(state, pool, record, packet))
+}
+
+// The record of a line, which has 2,050 octets at most. A packet's octets go to the front of packet.
+#[tactic(auto, using(crate::proofs::Making::too_long, crate::proofs::Making::record_read))]
+fn read_record(line: &[u8], packet: &mut [u8; 1024]) -> Option<Record>
+    ensures { line_of result packet.new ≡ record_of line.now }
+{
+    if 2050 < line.len() {
+        return None;
+    }
+    read::read_line(line, packet)
+}
+
+// The record's call is made. packet holds the octets of a packet.
+fn make(state: &mut Controller, pool: &mut [u8], record: Record, packet: &[u8]) -> Text
+    requires { Running (held state.old pool.old) }
+    ensures { Prints (call_of «record» packet.now) (held state.old pool.old) (held state.new pool.new) (text_of result) }
+{
+    match record {
+        Record::Packet(n) => make_packet(state, pool, &packet[..n.min(packet.len())]),
+        Record::Take { handle, most } => make_take(state, pool, handle, most),
+        Record::Completed { handle, count } => make_completed(state, handle, count),
+        Record::Open { handle, timing } => make_open(state, handle, timing),
+    }
+}
+
+// A packet of the host.
+fn make_packet(state: &mut Controller, pool: &mut [u8], packet: &[u8]) -> Text
+    requires { Running (held state.old pool.old) }
+    ensures { Prints (call.on_packet (replicate 6 0) 0 packet.now) (held state.old pool.old) (held state.new pool.new)
+        (text_of result) }
+{
+    let mut events = [0u8; 71];
+    let r = controller::on_packet(
+        bench_profile(),
+        &rows::OPCODES,
+        &rows::ANSWERS,
+        &rows::BITS,
+        *state,
+        pool,
+        &[0; 6],
+        0,
+        packet,
+        &mut events,
+    );
+    *state = r.state;
+    text(b'E', &events[..r.written], r.number, &state.links)
+}
+
+// A take.
+fn make_take(state: &mut Controller, pool: &[u8], handle: u16, most: u16) -> Text
+    requires { Running (held state.old pool.now) }
+    ensures { Prints (call.take_transmit handle most) (held state.old pool.now) (held state.new pool.now) (text_of result) }
+{
+    let mut taken = [0u8; 64];
+    let r = controller::take_transmit(
+        bench_profile(),
+        *state,
+        pool,
+        handle,
+        usize::from(most),
+        &mut taken,
+    );
+    *state = r.state;
+    text(b'X', &taken[..r.written], r.number, &state.links)
+}
+
+// A report of completed packets.
+fn make_completed(state: &mut Controller, handle: u16, count: u16) -> Text
+    requires { StateHolds state.old bench_controller }
+    ensures { PrintsAnyPool (call.completed handle count) state.old state.new (text_of result) }
+{
+    let mut events = [0u8; 71];
+    let r = controller::completed(bench_profile(), *state, handle, count, &mut events);
+    *state = r.state;
+    text(b'E', &events[..r.written], r.number, &state.links)
+}
+
+// A link that opens, of which the host hears nothing.
+fn make_open(state: &mut Controller, handle: u16, timing: Timing) -> Text
+    requires { StateHolds state.old bench_controller }
+    ensures { PrintsAnyPool (call.open_connection handle timing.interval timing.latency timing.timeout) state.old state.new
+        (text_of result) }
+{
+    let r = controller::open_connection(bench_profile(), *state, handle, timing);
+    *state = r.state;
+    text(b'E', &[], r.number, &state.links)
+}
+
+// What is printed for an answer: a line for each of its packets, and the line that ends it. Each call keeps its new state
+// itself, by one line.
+fn text(letter: u8, octets: &[u8], number: u8, links: &Links) -> Text
+    requires { (length octets.now ≤ 71) × LinksHold links.now 2 32 }
+    ensures { (size : ℕ) (pool : List ℕ)
+        → text_of result ≡ answer_lines letter octets.now number (in_use (view links.now size pool)) }
+{
+    let mut text = Text::new();
+    text.push_packets(letter, octets);
+    text.push_done(number, used(links));
+    text
+}
+
+// How many buffers are in use. By `as`, of which it is proved that it fits: `try_from` would give an error that never comes.
+fn used(links: &Links) -> u8
+    requires { LinksHold links.now 2 32 }
+    ensures { (size : ℕ) (pool : List ℕ) → result ≡ in_use (view links.now size pool) }
+{
+    links::buffers_in_use(*links) as u8
 }

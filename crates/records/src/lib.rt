@@ -8,7 +8,7 @@ mod print;
 mod read;
 mod rows;
 
-pub use bench::{Unit, bench_profile};
+pub use bench::{Unit, bench_profile, step};
 pub use input::run;
 use links::Timing;
 pub use print::Text;

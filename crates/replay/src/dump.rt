@@ -18,101 +18,109 @@ use filters::{AcceptList, ResolvingList};
 use links::{Connection, Links, Waiting};
 use profile::ControllerRow;
 use state::{Advertising, Controller, Counters, Masks, Recent, Scanning, Settings};
-use std::alloc::{AllocError, Global};
 
-// The state, whose waiting packets are in the pool.
-pub fn state_octets(
-    alloc: Global,
-    profile: ControllerRow,
-    s: Controller,
-    pool: &[u8],
-) -> Result<Vec<u8>, AllocError> {
-    let mut out = Vec::new(alloc);
-    put_masks(&mut out, s.masks)?;
-    put_settings(&mut out, s.settings)?;
-    put_advertising(&mut out, s.advertising)?;
-    put_scanning(&mut out, s.scanning)?;
-    put_accept_list(&mut out, s.accept_list)?;
-    put_resolving_list(&mut out, s.resolving_list)?;
-    put_links(&mut out, s.links, profile.acl_len, pool)?;
-    put_counters(&mut out, s.counters)?;
-    put_recent(&mut out, s.recent)?;
-    Ok(out)
+// What is written of a state: the first octets of a slice.
+#[derive(Drop)]
+struct Out<'a> {
+    octets: &'a mut [u8],
+    written: usize,
+}
+
+impl Out<'_> {
+    // Adds octets, as many as there is room for.
+    fn put(&mut self, octets: &[u8]) {
+        let start = self.written.min(self.octets.len());
+        let places = &mut self.octets[start..];
+        let count = places.len().min(octets.len());
+        places[..count].copy_from_slice(&octets[..count]);
+        self.written = start + count;
+    }
+}
+
+// Writes the state, whose waiting packets are in the pool, and gives how many octets it has.
+pub fn put_state(profile: ControllerRow, s: Controller, pool: &[u8], out: &mut [u8]) -> usize {
+    let mut out = Out {
+        octets: out,
+        written: 0,
+    };
+    put_masks(&mut out, s.masks);
+    put_settings(&mut out, s.settings);
+    put_advertising(&mut out, s.advertising);
+    put_scanning(&mut out, s.scanning);
+    put_accept_list(&mut out, s.accept_list);
+    put_resolving_list(&mut out, s.resolving_list);
+    put_links(&mut out, s.links, profile.acl_len, pool);
+    put_counters(&mut out, s.counters);
+    put_recent(&mut out, s.recent);
+    out.written
 }
 
 // How many entries there are in use, and those, from the front of a list that has so many octets for each.
-fn put_counted(out: &mut Vec<u8>, count: usize, width: u8, list: &[u8]) -> Result<(), AllocError> {
+fn put_counted(out: &mut Out<'_>, count: usize, width: u8, list: &[u8]) {
     let [count, ..] = count.to_le_bytes();
     let octets = usize::from(count) * usize::from(width);
-    out.push(count)?;
-    out.extend_from_slice(&list[..octets.min(list.len())])
+    out.put(&[count]);
+    out.put(&list[..octets.min(list.len())]);
 }
 
-fn put_masks(out: &mut Vec<u8>, masks: Masks) -> Result<(), AllocError> {
+fn put_masks(out: &mut Out<'_>, masks: Masks) {
     let longs = [masks.event, masks.event_page2, masks.le_event];
-    out.extend_from_slice(longs.map(u64::to_le_bytes).as_flattened())
+    out.put(longs.map(u64::to_le_bytes).as_flattened());
 }
 
-fn put_settings(out: &mut Vec<u8>, settings: Settings) -> Result<(), AllocError> {
-    out.extend_from_slice(&settings.random_address)?;
-    out.push(settings.address_resolution)?;
-    out.extend_from_slice(&settings.rpa_timeout.to_le_bytes())?;
+fn put_settings(out: &mut Out<'_>, settings: Settings) {
+    out.put(&settings.random_address);
+    out.put(&[settings.address_resolution]);
+    out.put(&settings.rpa_timeout.to_le_bytes());
     let data_length = settings.suggested_data_length.map(u16::to_le_bytes);
-    out.extend_from_slice(data_length.as_flattened())?;
-    out.extend_from_slice(&settings.default_phy)?;
-    out.push(settings.host_flow_control)?;
-    out.push(settings.advertising_family)?;
-    out.push(settings.test)?;
+    out.put(data_length.as_flattened());
+    out.put(&settings.default_phy);
+    out.put(&[
+        settings.host_flow_control,
+        settings.advertising_family,
+        settings.test,
+    ]);
     let path_compensation = settings.rf_path_compensation.map(u16::to_le_bytes);
-    out.extend_from_slice(path_compensation.as_flattened())
+    out.put(path_compensation.as_flattened());
 }
 
-fn put_advertising(out: &mut Vec<u8>, advertising: Advertising) -> Result<(), AllocError> {
+fn put_advertising(out: &mut Out<'_>, advertising: Advertising) {
     let data_len = usize::from(advertising.data_len);
     let scan_response_len = usize::from(advertising.scan_response_len);
-    out.extend_from_slice(&advertising.params)?;
-    put_counted(out, data_len, 1, &advertising.data)?;
-    put_counted(out, scan_response_len, 1, &advertising.scan_response)?;
-    out.push(advertising.enabled)?;
-    Ok(())
+    out.put(&advertising.params);
+    put_counted(out, data_len, 1, &advertising.data);
+    put_counted(out, scan_response_len, 1, &advertising.scan_response);
+    out.put(&[advertising.enabled]);
 }
 
-fn put_scanning(out: &mut Vec<u8>, scanning: Scanning) -> Result<(), AllocError> {
-    out.extend_from_slice(&scanning.params)?;
-    out.extend_from_slice(&scanning.enable)?;
-    out.push(scanning.initiating)?;
-    out.push(scanning.initiator_filter)?;
-    Ok(())
+fn put_scanning(out: &mut Out<'_>, scanning: Scanning) {
+    out.put(&scanning.params);
+    out.put(&scanning.enable);
+    out.put(&[scanning.initiating, scanning.initiator_filter]);
 }
 
-fn put_accept_list(out: &mut Vec<u8>, list: AcceptList) -> Result<(), AllocError> {
-    put_counted(out, list.count, 7, &list.octets)
+fn put_accept_list(out: &mut Out<'_>, list: AcceptList) {
+    put_counted(out, list.count, 7, &list.octets);
 }
 
-fn put_resolving_list(out: &mut Vec<u8>, list: ResolvingList) -> Result<(), AllocError> {
-    put_counted(out, list.count, 8, &list.octets)
+fn put_resolving_list(out: &mut Out<'_>, list: ResolvingList) {
+    put_counted(out, list.count, 8, &list.octets);
 }
 
 // The links, and how many packets are in flight. The profile's length and no `Places`: a packet's index, of an octet and a word,
 // is known to fit; of two `usize` it is not.
-fn put_links(out: &mut Vec<u8>, links: Links, acl_len: u16, pool: &[u8]) -> Result<(), AllocError> {
+fn put_links(out: &mut Out<'_>, links: Links, acl_len: u16, pool: &[u8]) {
     let connections = &links.connections[..links.count.min(16)];
     let [count, ..] = connections.len().to_le_bytes();
-    out.push(count)?;
+    out.put(&[count]);
     for link in connections {
-        put_link(out, *link, links, acl_len, pool)?;
+        put_link(out, *link, links, acl_len, pool);
     }
-    out.extend_from_slice(&links.in_flight.to_le_bytes())
+    out.put(&links.in_flight.to_le_bytes());
 }
 
 // One link, and the packets that wait in it.
-fn put_link(
-    out: &mut Vec<u8>,
-    link: Connection,
-    links: Links,
-    acl_len: u16,
-    pool: &[u8],
-) -> Result<(), AllocError> {
+fn put_link(out: &mut Out<'_>, link: Connection, links: Links, acl_len: u16, pool: &[u8]) {
     let words = [
         link.handle,
         link.interval,
@@ -122,54 +130,47 @@ fn put_link(
         link.tx_time,
         link.auth_payload_timeout,
     ];
-    out.extend_from_slice(words.map(u16::to_le_bytes).as_flattened())?;
+    out.put(words.map(u16::to_le_bytes).as_flattened());
     let modes = [
         link.tx_phy,
         link.rx_phy,
         link.terminating,
         link.ltk_requested,
     ];
-    out.extend_from_slice(&modes)?;
-    put_packets(out, link.handle, links, acl_len, pool)
+    out.put(&modes);
+    put_packets(out, link.handle, links, acl_len, pool);
 }
 
 // The packets that wait in the link with this handle, behind how many they are.
-fn put_packets(
-    out: &mut Vec<u8>,
-    handle: u16,
-    links: Links,
-    acl_len: u16,
-    pool: &[u8],
-) -> Result<(), AllocError> {
+fn put_packets(out: &mut Out<'_>, handle: u16, links: Links, acl_len: u16, pool: &[u8]) {
     let waiting = &links.waiting[..links.waiting_count.min(32)];
     let count = waiting.iter().filter(|w| w.handle == handle).count();
     let [count, ..] = count.to_le_bytes();
-    out.push(count)?;
+    out.put(&[count]);
     for w in waiting.iter().filter(|w| w.handle == handle) {
-        put_packet(out, *w, acl_len, pool)?;
+        put_packet(out, *w, acl_len, pool);
     }
-    Ok(())
 }
 
 // A packet that waits.
-fn put_packet(out: &mut Vec<u8>, w: Waiting, acl_len: u16, pool: &[u8]) -> Result<(), AllocError> {
+fn put_packet(out: &mut Out<'_>, w: Waiting, acl_len: u16, pool: &[u8]) {
     let start = usize::from(w.place) * (usize::from(acl_len) + 5);
     let place = pool.get(start..).unwrap_or(&[]);
-    out.extend_from_slice(&w.len.to_le_bytes())?;
-    out.extend_from_slice(&place[..place.len().min(usize::from(w.len))])
+    out.put(&w.len.to_le_bytes());
+    out.put(&place[..place.len().min(usize::from(w.len))]);
 }
 
-fn put_counters(out: &mut Vec<u8>, counters: Counters) -> Result<(), AllocError> {
+fn put_counters(out: &mut Out<'_>, counters: Counters) {
     let longs = [
         counters.commands,
         counters.unknown_commands,
         counters.acl_packets,
         counters.acl_dropped,
     ];
-    out.extend_from_slice(longs.map(u64::to_le_bytes).as_flattened())
+    out.put(longs.map(u64::to_le_bytes).as_flattened());
 }
 
 // The last answers.
-fn put_recent(out: &mut Vec<u8>, recent: Recent) -> Result<(), AllocError> {
-    put_counted(out, recent.count, 3, &recent.octets)
+fn put_recent(out: &mut Out<'_>, recent: Recent) {
+    put_counted(out, recent.count, 3, &recent.octets);
 }

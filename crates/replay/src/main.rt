@@ -15,19 +15,21 @@ mod record;
 mod run;
 mod setup;
 
+ghost use Rattle.std.specs.Prelude.{◌≤◌, length, IfOk};
+
 use setup::{Setup, Sizes};
-use std::alloc::Global;
 use std::io;
 use std::io::Read;
 
-// The most octets that a run may have of one kind.
+// The most octets that a run may have of one kind. Each kind has an array of so many: with a Vec the program could run out of
+// memory, and would assume the C library's heap (7 axioms and not 4).
 const LIMIT: usize = 65536;
 
 // Nothing says that the input ends, so the loop has a number of turns that no sample uses up.
 fn main(rt: HostRuntime) -> io::Result<()> {
     let mut input = rt.stdin();
     for _ in 0..u64::MAX {
-        if !one_run(&rt, rt.alloc(), &mut input)? {
+        if !one_run(&rt, &mut input)? {
             break;
         }
     }
@@ -36,36 +38,34 @@ fn main(rt: HostRuntime) -> io::Result<()> {
 
 // Replays one run of the input; whether there was one that fits: a bool, since `?` is for what a read or a write fails with, and
 // the one caller would test a ControlFlow in the same place.
-fn one_run(rt: &impl Print, alloc: Global, input: &mut impl Read) -> io::Result<bool> {
-    let head = next_octets(alloc, input, 24)?;
-    let Some(sizes) = Sizes::of(head.as_slice()) else {
+fn one_run(rt: &impl Print, input: &mut impl Read) -> io::Result<bool> {
+    let mut head = [0; 24];
+    let count = read_full(input, &mut head)?;
+    let Some(sizes) = Sizes::of(&head[..count]) else {
         return Ok(false);
     };
     if !fits(sizes) {
         return Ok(false);
     }
-    let octets = filled(alloc, input, sizes.setup)?;
-    let records = filled(alloc, input, sizes.records)?;
-    if let Some(setup) = Setup::of(octets.as_slice(), sizes.pool) {
-        run::answer_all(rt, alloc, setup, sizes, records.as_slice())?;
-    }
+    read_run(rt, input, sizes)?;
     println!(rt; "")?;
     Ok(true)
 }
 
-// The next octets of the input, as many as count, or fewer where it ends.
-fn next_octets(alloc: Global, input: &mut impl Read, count: usize) -> io::Result<Vec<u8>> {
-    let mut octets = Vec::new(alloc);
-    // Written by `as`: the library has no `From` from usize to u64.
-    input.take(count as u64).read_to_end(&mut octets)?;
-    Ok(octets)
-}
-
-// As many octets as count: zeros stand for those that the input ends before.
-fn filled(alloc: Global, input: &mut impl Read, count: usize) -> io::Result<Vec<u8>> {
-    let mut octets = next_octets(alloc, input, count)?;
-    octets.resize(count, 0)?;
-    Ok(octets)
+// Reads until the buffer is full or the input ends, and gives how many octets stand at its front then. The step is what a read
+// gave, so it is no `for`.
+fn read_full(input: &mut impl Read, buffer: &mut [u8]) -> io::Result<usize>
+    ensures { IfOk result (λ n. n ≤ length buffer.new) }
+{
+    let mut done = 0;
+    while done < buffer.len() {
+        let n = input.read(&mut buffer[done..])?;
+        if n == 0 {
+            break;
+        }
+        done += n;
+    }
+    Ok(done)
 }
 
 fn fits(sizes: Sizes) -> bool {
@@ -78,4 +78,23 @@ fn fits(sizes: Sizes) -> bool {
     ]
     .iter()
     .all(|size| *size <= LIMIT)
+}
+
+// Reads the setup and the records of a run, and prints the answers. Zeros stand for the octets that the input ends before.
+fn read_run(rt: &impl Print, input: &mut impl Read, sizes: Sizes) -> io::Result<()> {
+    let mut setup = [0; LIMIT];
+    let mut records = [0; LIMIT];
+    let octets = front(&mut setup, sizes.setup);
+    let records = front(&mut records, sizes.records);
+    read_full(input, octets)?;
+    read_full(input, records)?;
+    if let Some(setup) = Setup::of(octets, sizes.pool) {
+        run::answer_all(rt, setup, sizes, records)?;
+    }
+    Ok(())
+}
+
+// The first octets of a buffer, as many as count, which is at most LIMIT in a run that fits; all where it is more.
+fn front(buffer: &mut [u8; LIMIT], count: usize) -> &mut [u8] {
+    &mut buffer[..count.min(LIMIT)]
 }

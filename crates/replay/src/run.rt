@@ -3,27 +3,25 @@ use crate::hex::Hex;
 use crate::reader::Reader;
 use crate::record::{Notice, Record, Request};
 use crate::setup::{Setup, Sizes};
-use crate::{dump, queries};
+use crate::{LIMIT, dump, front, queries};
 use controller::{Changed, Told, Took};
+use lists::Held;
 use state::Controller;
-use std::alloc::{AllocError, Global};
 use std::io;
 
 // No answer has more octets: a run ends where less room is left.
 const LONGEST_ANSWER: usize = 40960;
 
-// A unit during a run: what it was set up with, its state, and the buffers that the calls are lent. The buffers are the run's
-// own, so that it finds nothing of an earlier run. The rows are three arrays, as the call takes them for C.
+// A unit during a run: what it was set up with, its state and its pool. The rows are three arrays, as the call takes them for C.
 #[derive(Drop)]
 struct Unit<'a> {
     setup: Setup<'a>,
-    opcodes: Vec<u16>,
-    answers: Vec<u8>,
-    bits: Vec<u16>,
+    sizes: Sizes,
+    opcodes: Held<u16, 256>,
+    answers: Held<u8, 256>,
+    bits: Held<u16, 256>,
     state: Controller,
-    pool: Vec<u8>,
-    events: Vec<u8>,
-    packets: Vec<u8>,
+    pool: &'a mut [u8],
 }
 
 // What a call gave: the state after it, the number of the refusal or 0, how many packets were taken, and how many octets stand at
@@ -71,15 +69,25 @@ impl From<Took> for Reply {
     }
 }
 
-// Answers the records and prints the answers. A record has three octets at least, so there are no more turns than octets.
+// Answers the records and prints the answers. A record has three octets at least, so there are no more turns than octets. The
+// pool and the buffer are the run's own, so that it finds nothing of an earlier run.
 pub fn answer_all(
     rt: &impl Print,
-    alloc: Global,
     setup: Setup<'_>,
     sizes: Sizes,
     records: &[u8],
 ) -> io::Result<()> {
-    let mut unit = Unit::new(alloc, setup, sizes)?;
+    let mut pool = [0; LIMIT];
+    let mut buffer = [0; LIMIT];
+    let mut unit = Unit {
+        setup,
+        sizes,
+        opcodes: setup.opcodes(),
+        answers: setup.answers(),
+        bits: setup.bits(),
+        state: controller::default_state(),
+        pool: front(&mut pool, sizes.pool),
+    };
     let mut reader = Reader::new(records);
     let mut room = sizes.answers;
     for _ in 0..records.len() {
@@ -89,88 +97,73 @@ pub fn answer_all(
         if room < LONGEST_ANSWER {
             break;
         }
-        let answer = unit.answer(alloc, record)?;
-        print!(rt; "{}", Hex(answer.as_slice()))?;
-        room = room.saturating_sub(answer.len());
+        let printed = unit.answer(rt, record, &mut buffer)?;
+        room = room.saturating_sub(printed);
     }
     Ok(())
 }
 
-impl<'a> Unit<'a> {
-    fn new(alloc: Global, setup: Setup<'a>, sizes: Sizes) -> Result<Unit<'a>, AllocError> {
-        Ok(Unit {
-            setup,
-            opcodes: setup.opcodes(alloc)?,
-            answers: setup.answers(alloc)?,
-            bits: setup.bits(alloc)?,
-            state: controller::default_state(),
-            pool: vec![in alloc; 0; sizes.pool]?,
-            events: vec![in alloc; 0; sizes.events]?,
-            packets: vec![in alloc; 0; sizes.packets]?,
-        })
-    }
-
-    // Carries out one record, and gives the octets of its answer.
-    fn answer(&mut self, alloc: Global, record: Record<'_>) -> Result<Vec<u8>, AllocError> {
+// Each is lent a buffer, and lends its front to the call for events or for taken packets.
+impl Unit<'_> {
+    // Carries out one record and prints its answer, and gives how many octets that has.
+    fn answer(
+        &mut self,
+        rt: &impl Print,
+        record: Record<'_>,
+        buffer: &mut [u8; LIMIT],
+    ) -> io::Result<usize> {
         let profile = self.setup.profile;
-        match record {
-            Record::Packet(packet) => {
-                let reply = self.packet(packet);
-                self.state = reply.state;
-                answer_octets(alloc, reply, self.events.as_slice())
-            }
-            Record::Take { handle, most } => {
-                let reply = self.take(handle, most);
-                self.state = reply.state;
-                answer_octets(alloc, reply, self.packets.as_slice())
-            }
-            Record::Notice(notice) => {
-                let reply = self.notice(notice);
-                self.state = reply.state;
-                answer_octets(alloc, reply, self.events.as_slice())
-            }
+        let reply = match record {
+            Record::Packet(packet) => self.packet(packet, buffer),
+            Record::Take { handle, most } => self.take(handle, most, buffer),
+            Record::Notice(notice) => self.notice(notice, buffer),
             Record::Show => {
-                let shown = dump::state_octets(alloc, profile, self.state, self.pool.as_slice())?;
-                let [low, high, ..] = shown.len().to_le_bytes();
-                let mut answer = [low, high].to_vec(alloc)?;
-                answer.extend_from_slice(shown.as_slice())?;
-                Ok(answer)
+                let written = dump::put_state(profile, self.state, self.pool, buffer);
+                let [low, high, ..] = written.to_le_bytes();
+                return print_answer(rt, &[low, high], &buffer[..written.min(LIMIT)]);
             }
-            Record::Find { handle } => queries::found(profile, self.state, handle).to_vec(alloc),
-        }
+            Record::Find { handle } => {
+                return print_answer(rt, &queries::found(profile, self.state, handle), &[]);
+            }
+        };
+        self.state = reply.state;
+        let [taken, ..] = reply.taken.to_le_bytes();
+        let [low, high, ..] = reply.written.to_le_bytes();
+        let head = [reply.number, taken, low, high];
+        print_answer(rt, &head, &buffer[..reply.written.min(LIMIT)])
     }
 
-    fn packet(&mut self, packet: &[u8]) -> Reply {
-        // A copy, since the address is lent beside what is read of the setup.
-        let setup = self.setup;
+    fn packet(&mut self, packet: &[u8], buffer: &mut [u8; LIMIT]) -> Reply {
+        // A copy, since the address is lent beside the pool.
+        let address = self.setup.address;
         controller::on_packet(
-            setup.profile,
+            self.setup.profile,
             self.opcodes.as_slice(),
             self.answers.as_slice(),
             self.bits.as_slice(),
             self.state,
-            self.pool.as_mut_slice(),
-            &setup.address,
-            setup.random,
+            self.pool,
+            &address,
+            self.setup.random,
             packet,
-            self.events.as_mut_slice(),
+            front(buffer, self.sizes.events),
         )
         .into()
     }
 
-    fn take(&mut self, handle: u16, most: u16) -> Reply {
+    fn take(&self, handle: u16, most: u16, buffer: &mut [u8; LIMIT]) -> Reply {
         controller::take_transmit(
             self.setup.profile,
             self.state,
-            self.pool.as_slice(),
+            self.pool,
             handle,
             usize::from(most),
-            self.packets.as_mut_slice(),
+            front(buffer, self.sizes.packets),
         )
         .into()
     }
 
-    fn accepted(&mut self, request: Request) -> Reply {
+    fn accepted(&self, request: Request, events: &mut [u8]) -> Reply {
         controller::accept_connection(
             self.setup.profile,
             self.state,
@@ -179,15 +172,15 @@ impl<'a> Unit<'a> {
             &request.peer,
             request.timing,
             request.accuracy,
-            self.events.as_mut_slice(),
+            events,
         )
         .into()
     }
 
-    fn notice(&mut self, notice: Notice) -> Reply {
+    fn notice(&self, notice: Notice, buffer: &mut [u8; LIMIT]) -> Reply {
         let profile = self.setup.profile;
         let s = self.state;
-        let events = self.events.as_mut_slice();
+        let events = front(buffer, self.sizes.events);
         match notice {
             Notice::Opened { handle, timing } => {
                 controller::open_connection(profile, s, handle, timing).into()
@@ -196,7 +189,7 @@ impl<'a> Unit<'a> {
                 controller::completed(profile, s, handle, count, events).into()
             }
             Notice::Gone { count } => controller::drop_in_flight(profile, s, count).into(),
-            Notice::Accepted(request) => self.accepted(request),
+            Notice::Accepted(request) => self.accepted(request, events),
             Notice::Updated { handle, timing } => {
                 controller::peer_update(profile, s, handle, timing, events).into()
             }
@@ -220,12 +213,8 @@ impl<'a> Unit<'a> {
     }
 }
 
-// The answer to a call that left this at the front of a buffer.
-fn answer_octets(alloc: Global, reply: Reply, buffer: &[u8]) -> Result<Vec<u8>, AllocError> {
-    let octets = &buffer[..reply.written.min(buffer.len())];
-    let [taken, ..] = reply.taken.to_le_bytes();
-    let [low, high, ..] = octets.len().to_le_bytes();
-    let mut answer = [reply.number, taken, low, high].to_vec(alloc)?;
-    answer.extend_from_slice(octets)?;
-    Ok(answer)
+// Prints an answer of these two parts, and gives how many octets it has.
+fn print_answer(rt: &impl Print, head: &[u8], octets: &[u8]) -> io::Result<usize> {
+    print!(rt; "{}{}", Hex(head), Hex(octets))?;
+    Ok(head.len() + octets.len())
 }

@@ -11,8 +11,8 @@
 //    80  le_features (8)             103  tx_power_max, signed         126  the rows
 // A row is its opcode (2), how it is answered (0 modelled, 1 unmodelled, 2 unknown) and its bit number (2).
 use crate::reader::Reader;
+use lists::Held;
 use profile::ControllerRow;
-use std::alloc::{AllocError, Global};
 
 // How many octets a run has of each; answers is the room for those.
 #[derive(Clone, Copy)]
@@ -70,26 +70,36 @@ impl<'a> Setup<'a> {
         })
     }
 
-    // The columns of the rows. Each is a pattern: a function handed that as a closure would save no line.
-    pub fn opcodes(&self, alloc: Global) -> Result<Vec<u16>, AllocError> {
-        self.rows
-            .iter()
-            .map(|[low, high, ..]| u16::from_le_bytes([*low, *high]))
-            .collect(alloc)
+    // The columns of the rows. Each is a pattern: a function handed that as a closure would need a `requires`, and this program
+    // has none. There is always room for the next row, since `of` takes no more than 256.
+    pub fn opcodes(&self) -> Held<u16, 256> {
+        let mut column: Held<u16, 256> = Held::new();
+        for [low, high, ..] in self.rows {
+            if column.len() < 256 {
+                column.push(u16::from_le_bytes([*low, *high]));
+            }
+        }
+        column
     }
 
-    pub fn answers(&self, alloc: Global) -> Result<Vec<u8>, AllocError> {
-        self.rows
-            .iter()
-            .map(|[_, _, answer, ..]| *answer)
-            .collect(alloc)
+    pub fn answers(&self) -> Held<u8, 256> {
+        let mut column: Held<u8, 256> = Held::new();
+        for [_, _, answer, ..] in self.rows {
+            if column.len() < 256 {
+                column.push(*answer);
+            }
+        }
+        column
     }
 
-    pub fn bits(&self, alloc: Global) -> Result<Vec<u16>, AllocError> {
-        self.rows
-            .iter()
-            .map(|[.., low, high]| u16::from_le_bytes([*low, *high]))
-            .collect(alloc)
+    pub fn bits(&self) -> Held<u16, 256> {
+        let mut column: Held<u16, 256> = Held::new();
+        for [.., low, high] in self.rows {
+            if column.len() < 256 {
+                column.push(u16::from_le_bytes([*low, *high]));
+            }
+        }
+        column
     }
 }
 

@@ -87,14 +87,15 @@ struct Parted {
     left: Held<Waiting, 32>,
 }
 
-// The first packets of a link, up to max, and the others.
-fn part(waiting: &[Waiting], handle: u16, max: usize) -> Parted
+// The first packets of a link, up to max, and the others, which go into the array that they come from: what it has behind those
+// that wait is no packet, and stays.
+fn part(waiting: &[Waiting], array: [Waiting; 32], handle: u16, max: usize) -> Parted
     requires { length waiting.now ≤ 32 }
     ensures { Parts waiting.now handle max (held result.taken) result.len (held result.left) }
 {
     let mut taken = Held::new();
     let mut len = 0;
-    let mut left = Held::new();
+    let mut left = Held::over(array);
     for w in waiting {
         if w.handle == handle && taken.len() < max {
             taken.push(*w);
@@ -141,7 +142,7 @@ pub fn take(
     requires { PoolFits links places.size places.count pool.now }
     ensures { Takes links places.size places.count handle max pool.now out.old result out.new }
 {
-    let Parted { taken, len, left } = part(links.waiting(), handle, max);
+    let Parted { taken, len, left } = part(links.waiting(), links.waiting, handle, max);
     if out.len() < len {
         return None;
     }

@@ -6,7 +6,7 @@ use Rattle.transmit.proofs.part.Goals.{else-w-handle-via-then-w-handle+else-len-
 use Rattle.transmit.proofs.part.Goals as goal
 
 pub loop-w-init : goal.loop-w-init
-loop-w-init c = rw (c.new-taken.ensures, c.new-left.ensures) (part_none _ _ _)
+loop-w-init c = rw (c.new-taken.ensures, c.over-left.ensures) (part_none _ _ _)
 
 pub loop-w-preserved : goal.loop-w-preserved
 loop-w-preserved c =

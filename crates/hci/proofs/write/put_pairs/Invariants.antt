@@ -4,8 +4,8 @@ use Rattle.octets.specs.Octets.{Put}
 use Rattle.hci.specs.Packet.{pairs}
 use Rattle.hci.proofs.write.put_pairs.Given as goal
 
-abbrev pub invariant-loop-handle : goal.invariant-loop-handle
-invariant-loop-handle l = record {
-  place : l.p ≡ l.at + 4 * length l.yielded;
-  written : Put l.initial.out l.at (pairs (take (length l.yielded) l.handles) (take (length l.yielded) l.counts)) l.p l.out;
+abbrev pub invariant-loop-i : goal.invariant-loop-i
+invariant-loop-i l = record {
+  place : l.p ≡ l.at + 4 * l.i;
+  written : Put l.initial.out l.at (pairs (take l.i l.handles) (take l.i l.counts)) l.p l.out;
 }

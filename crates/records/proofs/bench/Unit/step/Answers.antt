@@ -1,14 +1,12 @@
 -- `records::bench::Unit::step` meets its contract.
-use native.Mathlib.Omega.{arith}
-use Rattle.records.proofs.Making.{too_long, steps_none, steps_unread, steps_record}
+use Rattle.records.proofs.Making.{steps_none, steps_record}
 use Rattle.records.proofs.bench.Unit.step.Goals as goal
 
-pub returns-then-line-gt2050 : goal.returns-then-line-gt2050
-returns-then-line-gt2050 c = steps_none (too_long _ c.if-line-gt2050.true)
+pub invariant_of-self : goal.invariant_of-self
+invariant_of-self c = record { together = c.make.ensures.running.together }
 
 pub returns-in_err-record : goal.returns-in_err-record
-returns-in_err-record c =
-    rw c.from_residual.ensures (steps_unread (omega (arith, c.if-line-gt2050.false)) c.in_err-record.ensures)
+returns-in_err-record c = rw c.from_residual.ensures (steps_none c.in_err-record.ensures)
 
 pub returns : goal.returns
-returns c = steps_record _ (omega (arith, c.if-line-gt2050.false)) c.in_ok-record.ensures c.make.ensures
+returns c = steps_record _ c.in_ok-record.ensures c.make.ensures

@@ -1,0 +1,9 @@
+-- `records::bench::step` meets its contract.
+use Rattle.records.proofs.Making.{steps_none, steps_record}
+use Rattle.records.proofs.bench.step.Goals as goal
+
+pub returns-in_err-record : goal.returns-in_err-record
+returns-in_err-record c = rw c.from_residual-in_err-record.ensures (steps_none c.in_err-record.ensures)
+
+pub returns : goal.returns
+returns c = steps_record _ c.in_ok-record.ensures c.make.ensures
